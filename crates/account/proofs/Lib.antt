@@ -1,0 +1,4 @@
+mod ChosenNames
+mod ListRefusals
+mod Reports
+mod AccountLaws

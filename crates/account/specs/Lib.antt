@@ -1,0 +1,5 @@
+pub mod Chosen
+pub mod Refusals
+pub mod Numbers
+pub mod Account
+pub mod Law

@@ -1,0 +1,5 @@
+pub mod Orders
+pub mod Fronts
+mod Turns
+mod WithByte
+pub mod OrderLaws

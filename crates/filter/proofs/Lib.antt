@@ -1,0 +1,6 @@
+pub mod Runs
+pub mod Lawful
+pub mod StrMeaning
+pub mod SubsequenceMeaning
+pub mod CombinatorMeanings
+pub mod Verdicts

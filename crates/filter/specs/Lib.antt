@@ -1,0 +1,4 @@
+pub mod Filter
+pub mod Tables
+pub mod Meanings
+pub mod Theorems

@@ -1,0 +1,4 @@
+pub mod Names
+pub mod Numbers
+pub mod Refusals
+pub mod Rising
