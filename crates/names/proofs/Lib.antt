@@ -1,2 +1,2 @@
 mod First
-mod RefusalLaws
+pub mod RefusalLaws

@@ -1,0 +1,6 @@
+mod First
+mod Accepts
+mod Refuses
+mod Contracts
+mod Lawful
+mod AnswersBytes

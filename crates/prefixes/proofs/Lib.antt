@@ -1,0 +1,9 @@
+pub mod RisingNames
+pub mod Lowest
+pub mod BytesAfter
+pub mod Nodes
+pub mod Laws
+pub mod Keys
+pub mod Divided
+pub mod Passed
+pub mod Stands
