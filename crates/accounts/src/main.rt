@@ -1,4 +1,5 @@
 //! Runs many inputs through `account`: a line of standard input is an input in hex, its account is printed.
+#![tactic(auto)]
 ghost use Rattle.std.specs.Prelude.{◌<◌};
 
 use account::account;

@@ -1,4 +1,6 @@
 //! Byte strings: their order, and which begins with which.
+#![tactic(auto)]
+
 ghost use Rattle.std.specs.Prelude.{◌≡◌, [], ◌∷◌, ◌++◌};
 ghost use Rattle.byte_strings.specs.Order.{order, begins};
 ghost use Rattle.byte_strings.specs.Difference.{FirstDifference, byte_at, order_of_bytes};

@@ -1,4 +1,5 @@
 //! Worked examples of the search, as one theorem about its definitions.
+#![tactic(auto)]
 ghost use Rattle.examples.specs.Examples.{Examples};
 
 /// Theorem: the worked examples hand out what they say.

@@ -1,5 +1,7 @@
 //! What filters over keys answer: their tables, laws and meanings stand in `specs/`, the proofs in `proofs/`.
 //! The code is the state types of the combinators.
+#![tactic(auto)]
+
 ghost use Rattle.filter.specs.Theorems.{ClosedStrAcceptsKeyBeforeSlash, SubsequenceStateAboveLengthStays};
 
 /// The state of `StartsWith`: some prefix has matched, or the inner filter still runs.

@@ -1,4 +1,5 @@
 //! A list of names as a graph of their prefixes.
+#![tactic(auto)]
 mod list;
 mod opening;
 mod questions;

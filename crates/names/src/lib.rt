@@ -1,4 +1,5 @@
 //! Names cut out of a text, and what keeps them from being a list.
+#![tactic(auto)]
 mod checking;
 mod name;
 mod refusal;

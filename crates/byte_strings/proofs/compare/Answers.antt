@@ -5,7 +5,7 @@ use Rattle.byte_strings.proofs.compare.Goals as goal
 
 pub returns : goal.returns
 returns c =
-    c.compare-bytes.ensures
-    ∙ ap (λ x. order_of_bytes x c.byte-at-2.result) c.byte-at.ensures
-    ∙ ap (order_of_bytes (byte_at c.args.a.now c.first-difference-at.result)) c.byte-at-2.ensures
-    ∙ order_at_difference c.args.a.now c.args.b.now c.first-difference-at.result c.first-difference-at.ensures
+    c.compare_bytes.ensures
+    ∙ ap (λ x. order_of_bytes x c.byte_at-2.result) c.byte_at.ensures
+    ∙ ap (order_of_bytes (byte_at c.args.a.now c.first_difference-at.result)) c.byte_at-2.ensures
+    ∙ order_at_difference c.args.a.now c.args.b.now c.first_difference-at.result c.first_difference-at.ensures

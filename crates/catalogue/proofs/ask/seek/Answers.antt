@@ -11,7 +11,7 @@ returns-then-found-sought c =
     let m = c.loop-low.low + (c.loop-low.high - c.loop-low.low) / 2 in
     let file = file_of c.args.bytes.now in
     let l : m < len_in file c.args.node = omega (arith, i.within) in
-    (transition_at file c.args.node m, grind (arith, nat_tests), sym c.transition-byte-found.ensures ∙ c.if-found-sought.true)
+    (transition_at file c.args.node m, grind (arith, nat_tests), sym c.transition_byte-found.ensures ∙ c.if-found-sought.true)
 
 pub loop-low-preserved-then-found-sought-2 : goal.loop-low-preserved-then-found-sought-2
 loop-low-preserved-then-found-sought-2 c =

@@ -15,4 +15,4 @@ returns-in-Some c =
 pub loop-position-preserved : goal.loop-position-preserved
 loop-position-preserved c =
     let f = transition_refusal (file_of c.args.bytes.now) c.args.node in
-    first_more f c.loop-position.position c.loop-position.invariant (sym c.in-default.ensures)
+    first_more f c.loop-position.position c.loop-position.invariant (sym c.in_default.ensures)

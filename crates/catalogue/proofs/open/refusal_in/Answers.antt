@@ -4,4 +4,4 @@ use Rattle.catalogue.specs.Refusals.{refusal_of}
 use Rattle.catalogue.proofs.open.refusal_in.Goals as goal
 
 pub returns : goal.returns
-returns c = c.first-refusal.ensures ∙ ap (λ b. refusal_of (file_of b)) c.as-slice.ensures.value
+returns c = c.first_refusal.ensures ∙ ap (λ b. refusal_of (file_of b)) c.as_slice.ensures.value

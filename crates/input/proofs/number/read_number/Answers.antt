@@ -5,14 +5,14 @@ use Rattle.input.proofs.number.read_number.Goals as goal
 pub loop-byte-init : goal.loop-byte-init
 loop-byte-init c = begun c.args.digits.now (omega arith) (omega arith)
 
-pub returns-in-err-value : goal.returns-in-err-value
-returns-in-err-value c =
-    c.from-residual.ensures
-    ∙ refused c.args.digits.now c.loop-byte.byte-index c.loop-byte.value (omega arith) c.loop-byte.invariant c.in-err-value.ensures
+pub returns-in_err-value : goal.returns-in_err-value
+returns-in_err-value c =
+    c.from_residual.ensures
+    ∙ refused c.args.digits.now c.loop-byte.byte-index c.loop-byte.value (omega arith) c.loop-byte.invariant c.in_err-value.ensures
 
 pub loop-byte-preserved : goal.loop-byte-preserved
 loop-byte-preserved c =
-    goes_on c.args.digits.now c.loop-byte.byte-index c.loop-byte.value c.in-ok-value.value (omega arith) c.loop-byte.invariant c.in-ok-value.ensures
+    goes_on c.args.digits.now c.loop-byte.byte-index c.loop-byte.value c.in_ok-value.value (omega arith) c.loop-byte.invariant c.in_ok-value.ensures
 
 pub returns : goal.returns
 returns c = finished c.args.digits.now c.loop-byte.byte-index c.loop-byte.value (omega arith) c.loop-byte.invariant

@@ -13,25 +13,25 @@ loop-at-init c =
 
 pub loop-at-preserved : goal.loop-at-preserved
 loop-at-preserved c = (
-  c.in-ok-input.ensures.1,
-  line_good c.args.text.now c.loop-at.at c.line-end-end.result _ (omega arith) c.line-end-end.ensures c.loop-at.invariant.1
-      (asked_of c.args.text.now c.in-ok-input.input) c.in-ok-input.ensures.0,
+  c.in_ok-input.ensures.1,
+  line_good c.args.text.now c.loop-at.at c.line_end-end.result _ (omega arith) c.line_end-end.ensures c.loop-at.invariant.1
+      (asked_of c.args.text.now c.in_ok-input.input) c.in_ok-input.ensures.0,
 )
 
-pub returns-in-err-input : goal.returns-in-err-input
-returns-in-err-input c =
-    let p = err_from_is_err_and c.from-residual.result c.from-residual.ensures.1 in
+pub returns-in_err-input : goal.returns-in_err-input
+returns-in_err-input c =
+    let p = err_from_is_err_and c.from_residual.result c.from_residual.ensures.1 in
     rw (p.1, p.2)
-    (bad_line_bad_text c.args.text.now _ _ c.in-err-input.field-0.0
-    (line_bad c.args.text.now c.loop-at.at c.line-end-end.result _ (omega arith) c.line-end-end.ensures c.loop-at.invariant.1) c.in-err-input.ensures)
+    (bad_line_bad_text c.args.text.now _ _ c.in_err-input.field-0.0
+    (line_bad c.args.text.now c.loop-at.at c.line_end-end.result _ (omega arith) c.line_end-end.ensures c.loop-at.invariant.1) c.in_err-input.ensures)
 
 pub returns : goal.returns
 returns c = (text_done c.args.text.now c.loop-at.at _ (omega arith) c.loop-at.invariant.1, c.loop-at.invariant.0)
 
-pub act-line-requires : goal.act-line-requires
-act-line-requires c = record {
-  forward = c.line-end-end.ensures.forward;
-  inside = c.line-end-end.ensures.inside;
+pub act_line-requires : goal.act_line-requires
+act_line-requires c = record {
+  forward = c.line_end-end.ensures.forward;
+  inside = c.line_end-end.ensures.inside;
   few = c.requires;
-  names-inside = c.loop-at.invariant.0;
+  names_inside = c.loop-at.invariant.0;
 }

@@ -2,8 +2,8 @@ use Rattle.std.proofs.Common.{sym, ◌∙◌, arith}
 use Rattle.names.proofs.First.{first_past, first_here, first_next, counted_first, inside_next}
 use Rattle.names.proofs.checking.first_refusal.Goals as goal
 
-pub refusal-at-requires : goal.refusal-at-requires
-refusal-at-requires c = record { there = omega arith; few = omega arith; inside-before = c.loop-i.invariant.1 }
+pub refusal_at-requires : goal.refusal_at-requires
+refusal_at-requires c = record { there = omega arith; few = omega arith; inside_before = c.loop-i.invariant.1 }
 
 pub returns-in-Some : goal.returns-in-Some
 returns-in-Some c =
@@ -12,8 +12,8 @@ returns-in-Some c =
 
 pub loop-i-preserved : goal.loop-i-preserved
 loop-i-preserved c = (
-  c.loop-i.invariant.0 ∙ first_next c.args.text.now c.args.rows.now c.loop-i.i (omega arith) c.in-default.ensures,
-  λ _. inside_next c.args.text.now c.args.rows.now c.loop-i.i c.in-default.ensures,
+  c.loop-i.invariant.0 ∙ first_next c.args.text.now c.args.rows.now c.loop-i.i (omega arith) c.in_default.ensures,
+  λ _. inside_next c.args.text.now c.args.rows.now c.loop-i.i c.in_default.ensures,
 )
 
 pub returns : goal.returns

@@ -10,5 +10,5 @@ returns c =
     let s = c.args.self.now in
     record {
       answer = v;
-      well-formed = subst (λ b. WellFormed (file_of b)) (sym v) (accepted_formed (file_of (vec_items s.bytes)) s.accepted);
+      well_formed = subst (λ b. WellFormed (file_of b)) (sym v) (accepted_formed (file_of (vec_items s.bytes)) s.accepted);
     }

@@ -6,4 +6,4 @@ use Rattle.catalogue.proofs.graph_impl.CatalogueGraph.find_input.Goals as goal
 
 pub returns : goal.returns
 returns c =
-    subst (λ b. Finds (table_of (file_of b)) c.args.node c.args.byte c.find-input-of.result) c.accepted-bytes.ensures.answer c.find-input-of.ensures
+    subst (λ b. Finds (table_of (file_of b)) c.args.node c.args.byte c.find_input_of.result) c.accepted_bytes.ensures.answer c.find_input_of.ensures

@@ -9,4 +9,4 @@ pub returns : goal.returns
 returns c =
     let text = c.args.text.now in
     subst (λ k. Acts text (act (asked_of text c.args.self) k (take (c.args.to - c.args.from) (drop c.args.from text))) c.with_name.result)
-    (sym c.in-Name.is) (c.with_name.ensures text (place_inside text c.args.from c.args.to (omega arith) (omega arith)) c.requires.names-inside)
+    (sym c.in-Name.is) (c.with_name.ensures text (place_inside text c.args.from c.args.to (omega arith) (omega arith)) c.requires.names_inside)
