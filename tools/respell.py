@@ -14,6 +14,8 @@ import sys
 NAME = re.compile(r"[^\s(){};,.|\[\]«»`\"]+")
 LIBRARY = re.compile(r"^(?:ghost )?use (?:Rattle\.std|Rattle\.core|native|mathlib|lib|denote|Prim)\b[^{\n]*\{([^}]*)\}", re.M)
 OWN_CRATE = (("bytes", "byte_strings"),)
+# the plain respelling would be the name of a type of src/
+OTHERWISE = {"Starts-with": "StartingWith"}
 
 
 def files(suffix):
@@ -34,6 +36,8 @@ def is_dashed(word):
 
 
 def respelled(word):
+    if word in OTHERWISE:
+        return OTHERWISE[word]
     if word[0].isupper():
         return "".join(part[:1].upper() + part[1:] for part in word.split("-"))
     return word.replace("-", "_")

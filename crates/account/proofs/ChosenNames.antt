@@ -5,7 +5,7 @@ use Rattle.byte_strings.specs.Order.{Bytes, begins}
 use Rattle.byte_strings.proofs.OrderLaws.{begins_law}
 use Rattle.bound.specs.Within.{is_within, Within}
 use Rattle.bound.proofs.Words.{within_said, within_test}
-use Rattle.filter.specs.Meanings.{StartsWith, EqualTo, SubsequenceOf, ended, taken, skipped}
+use Rattle.filter.specs.Meanings.{StartingWith, EqualTo, SubsequenceOf, ended, taken, skipped}
 use Rattle.input.specs.Asked.{Asked}
 use Rattle.account.specs.Chosen.{is_subsequence, is_chosen, Chosen}
 
@@ -59,7 +59,7 @@ and_test : (u v : Bool) → u ≡ true → v ≡ true → (u && v) ≡ true
 and_test u v h k = ap (λ w. w && v) h ∙ k
 
 -- what the filter decides is the two tests
-pub passes_tests : (p s k : Bytes) (r : Bool) → Decides r (StartsWith (EqualTo p) k × SubsequenceOf s k) → r ≡ (begins p k && is_subsequence s k)
+pub passes_tests : (p s k : Bytes) (r : Bool) → Decides r (StartingWith (EqualTo p) k × SubsequenceOf s k) → r ≡ (begins p k && is_subsequence s k)
 passes_tests p s k true d =
     let both = d.0 refl in
     let front = both.0 in

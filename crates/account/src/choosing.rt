@@ -1,6 +1,6 @@
 //! Which names an account lists.
 ghost use Rattle.std.specs.Prelude.{◌≡◌, Decides};
-ghost use Rattle.filter.specs.Meanings.{StartsWith, EqualTo, SubsequenceOf};
+ghost use Rattle.filter.specs.Meanings.{StartingWith, EqualTo, SubsequenceOf};
 ghost use Rattle.input.specs.Reading.{asked_of};
 ghost use Rattle.byte_strings.specs.Order.{Bytes};
 ghost use Rattle.account.specs.Chosen.{is_chosen};
@@ -11,7 +11,7 @@ use input::Input;
 
 /// Whether the key begins with the prefix and holds the bytes of the subsequence in order.
 fn passes(prefix: &[u8], subsequence: &[u8], key: &[u8]) -> bool
-    ensures { Decides result (StartsWith (EqualTo prefix.now) key.now × SubsequenceOf subsequence.now key.now) }
+    ensures { Decides result (StartingWith (EqualTo prefix.now) key.now × SubsequenceOf subsequence.now key.now) }
 {
     let filter = Str::new(prefix)
         .starts_with()

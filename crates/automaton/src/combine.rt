@@ -2,7 +2,7 @@
 ghost use Rattle.std.specs.Prelude.{◌≡◌};
 ghost use Rattle.filter.specs.Filter.{Lawful};
 ghost use Rattle.filter.specs.Tables.{starts_with_table, union_table, intersection_table, complement_table};
-ghost use Rattle.filter.specs.Meanings.{Means, StartsWith, UnionOf, IntersectionOf, ComplementOf};
+ghost use Rattle.filter.specs.Meanings.{Means, StartingWith, UnionOf, IntersectionOf, ComplementOf};
 
 use crate::promise::promise;
 use crate::{Automaton, Complement, Intersection, StartsWith, Union};
@@ -16,8 +16,8 @@ pub trait Combine: Automaton {
         ensures holds { result.filter ≡ self }
         ensures lawful { Lawful (starts_with_table (Self.Automaton.table result.filter)) }
         ensures means { Means (starts_with_table (Self.Automaton.table result.filter))
-            (StartsWith (Self.Automaton.matching self))
-            (StartsWith (Self.Automaton.matching self)) };
+            (StartingWith (Self.Automaton.matching self))
+            (StartingWith (Self.Automaton.matching self)) };
 
     /// The keys that this filter or the other matches.
     fn union<G: Automaton>(self, other: G) -> Union<Self, G>

@@ -1,5 +1,6 @@
 //! Filters over keys: automata that read a key byte by byte, each with the table of its answers and its meaning.
 #![tactic(auto)]
+
 ghost use Rattle.std.specs.Prelude.{◌≡◌};
 ghost use Rattle.filter.specs.Filter.{Filter, Lawful};
 ghost use Rattle.filter.specs.Meanings.{Keys, Means};

@@ -1,5 +1,6 @@
 //! Bounds on keys. A bound holds the caller's bytes themselves.
 #![tactic(auto)]
+
 ghost use Rattle.std.specs.Prelude.{◌≡◌, true, ◌↔◌};
 ghost use Rattle.bound.specs.Value.{value_of, bytes_of};
 ghost use Rattle.bound.specs.Within.{is_reached, is_exceeded, is_within, Within};

@@ -1,5 +1,6 @@
 //! A catalogue: a file of nodes and transitions, opened into a lawful graph.
 #![tactic(auto)]
+
 mod ask;
 mod catalogue;
 mod checking;

@@ -5,7 +5,7 @@ use Rattle.std.proofs.lemmas.Bool.Decides.{Decides-at, Decides-and, Decides-or, 
 use Rattle.filter.specs.declared.StartsWithState.TheVariants.{Done, Running}
 use Rattle.filter.specs.Filter.{Filter, run}
 use Rattle.filter.specs.Tables.{always_match_table, starts_with_table, starts_with_is_match, union_table, intersection_table, complement_table, closed_table, slash}
-use Rattle.filter.specs.Meanings.{Keys, Means, matches, AllKeys, StartsWith, UnionOf, IntersectionOf, ComplementOf, FollowedBySlash}
+use Rattle.filter.specs.Meanings.{Keys, Means, matches, AllKeys, StartingWith, UnionOf, IntersectionOf, ComplementOf, FollowedBySlash}
 use Rattle.filter.proofs.Runs.{run_append, starts_with_run_done, union_run, intersection_run, complement_run, closed_run}
 use Rattle.filter.proofs.Verdicts.{matched_is_accepted}
 
@@ -30,8 +30,8 @@ module _ {S : Type 0} (f : Filter S) where
   prefix_suffices s false (b ∷ u) v e h = prefix_suffices (f.accept s b) (f.is_match (f.accept s b)) u v refl h
 
 module _ {S : Type 0} (f : Filter S) (M V : Keys) (m : Means f M V) where
-  pub starts_with_table_means : Means (starts_with_table f) (StartsWith M) (StartsWith M)
-  starts_with_table_means = matched_is_accepted (starts_with_table f) (StartsWith M) (λ w. refl) (λ w. (
+  pub starts_with_table_means : Means (starts_with_table f) (StartingWith M) (StartingWith M)
+  starts_with_table_means = matched_is_accepted (starts_with_table f) (StartingWith M) (λ w. refl) (λ w. (
     λ h. let r = prefix_found f f.start (f.is_match f.start) w refl h in (r.0, r.1, r.2, (m.matching r.0).0 r.3),
     λ p. subst (λ q. matches (starts_with_table f) q ≡ true) p.2 (prefix_suffices f f.start (f.is_match f.start) p.0 p.1 refl ((m.matching p.0).1 p.3)),
   ))

@@ -31,8 +31,8 @@ abbrev pub AllKeys : Keys
 AllKeys k = Unit {0}
 
 -- the keys of which some prefix is in M
-abbrev pub StartsWith : Keys → Keys
-StartsWith M k = (u : List ℕ) × (v : List ℕ) × (u ++ v ≡ k) × M u
+abbrev pub StartingWith : Keys → Keys
+StartingWith M k = (u : List ℕ) × (v : List ℕ) × (u ++ v ≡ k) × M u
 
 abbrev pub UnionOf : Keys → Keys → Keys
 UnionOf M N k = M k ⊎ N k

@@ -1,5 +1,6 @@
 //! A graph of names: numbered nodes with transitions in the order of their bytes.
 #![tactic(auto)]
+
 ghost use Rattle.std.specs.Prelude.{◌≡◌};
 ghost use Rattle.graph.specs.Table.{Table, Lawful, Finds};
 

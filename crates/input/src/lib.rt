@@ -1,5 +1,6 @@
 //! The input of a listing: its lines, and what they ask for.
 #![tactic(auto)]
+
 mod kind;
 mod number;
 mod reading;

@@ -1,5 +1,6 @@
 //! A list of names as a graph of their prefixes.
 #![tactic(auto)]
+
 mod list;
 mod opening;
 mod questions;

@@ -1,5 +1,6 @@
 //! Names cut out of a text, and what keeps them from being a list.
 #![tactic(auto)]
+
 mod checking;
 mod name;
 mod refusal;

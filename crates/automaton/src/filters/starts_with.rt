@@ -1,6 +1,6 @@
 //! A filter that matches the keys of which another matches some prefix.
 ghost use Rattle.filter.specs.Tables.{starts_with_table};
-ghost use Rattle.filter.specs.Meanings.{StartsWith};
+ghost use Rattle.filter.specs.Meanings.{StartingWith};
 ghost use Rattle.filter.proofs.Lawful.{starts_with_table_lawful};
 ghost use Rattle.filter.proofs.CombinatorMeanings.{starts_with_table_means};
 
@@ -19,9 +19,9 @@ impl<F: Automaton> Automaton for StartsWith<F> {
 
     ghost lawful = { λ f. starts_with_table_lawful (F.Automaton.table f.filter) (F.Automaton.lawful f.filter) };
 
-    ghost matching = { λ f. StartsWith (F.Automaton.matching f.filter) };
+    ghost matching = { λ f. StartingWith (F.Automaton.matching f.filter) };
 
-    ghost accepting = { λ f. StartsWith (F.Automaton.matching f.filter) };
+    ghost accepting = { λ f. StartingWith (F.Automaton.matching f.filter) };
 
     ghost means = { λ f. starts_with_table_means _ _ _ (F.Automaton.means f.filter) };
 
