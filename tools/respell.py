@@ -12,7 +12,7 @@ import re
 import sys
 
 NAME = re.compile(r"[^\s(){};,.|\[\]«»`\"]+")
-LIBRARY = re.compile(r"^(?:ghost )?use (?:Rattle\.std|Rattle\.core|native|mathlib|lib|denote|Prim)\b[^{\n]*\{([^}]*)\}", re.M)
+LIBRARY = re.compile(r"^(?:ghost )?use (?:Rattle\.std|Rattle\.core|native|mathlib|lib|denote|borrow|logic|Prim)\b[^{\n]*\{([^}]*)\}", re.M)
 OWN_CRATE = (("bytes", "byte_strings"),)
 # the plain respelling would be the name of a type of src/
 OTHERWISE = {"Starts-with": "StartingWith"}

@@ -1,5 +1,6 @@
 //! The account of a listing: from the bytes of an input to the bytes that are printed.
 #![tactic(auto)]
+
 ghost use Rattle.std.specs.Prelude.{◌≡◌, IfOk};
 ghost use Rattle.account.specs.Account.{account_of};
 ghost use Rattle.account.specs.Law.{AccountLaw};

@@ -1,5 +1,6 @@
 //! Runs many inputs through `account`: a line of standard input is an input in hex, its account is printed.
 #![tactic(auto)]
+
 ghost use Rattle.std.specs.Prelude.{◌<◌};
 
 use account::account;

@@ -2,7 +2,7 @@
 use Rattle.std.proofs.Common.{◌≡◌, ℕ, zero, suc, ◌+◌, ◌<◌, ◌≤◌, Bool, true, false, not, ◌||◌, T, ltb, ◌≢◌, ◌⊎◌, List, [], ◌∷◌, ◌++◌, Some, None, Option, sym, refl, ap, ◌∙◌, subst, inl, inr, append_assoc, append-nil, arith, ltb-false, ltb-true}
 use mathlib.Core.List.{append_cancel_left}
 use native.Mathlib.Decide.{dec_lt, dec_le, ℕ_discrete}
-use borrow.Author.Tests.{not_true, not_false}
+use borrow.Author.Tests.{not-true, not-false}
 use Rattle.byte_strings.specs.Order.{Bytes, ◌≺◌, order}
 use Rattle.filter.specs.Filter.{Filter, Lawful as LawfulFilter, run, verdict_at, verdict_by}
 use Rattle.graph.specs.Keys.{Key}

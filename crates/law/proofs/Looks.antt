@@ -1,7 +1,7 @@
 -- `next` ends: the looks that a row can cost fall at each look, from every search and areas. Assumes nothing.
 use Rattle.std.proofs.Common.{◌≡◌, ℕ, zero, suc, ◌+◌, ◌-◌, ◌<◌, ◌≤◌, not, ltb, leb, ◌≢◌, ◌⊎◌, List, [], ◌∷◌, ◌++◌, length, get_or, take, set, Some, None, Option, sym, refl, ap, ◌∙◌, subst, inl, inr, arith, length-set, get_or-set_other, get_or-set_same, ltb-false, ltb-true, leb-false, leb-true}
 use native.Mathlib.Decide.{dec_lt}
-use borrow.Author.Tests.{not_true, not_false}
+use borrow.Author.Tests.{not-true, not-false}
 use Rattle.filter.specs.Filter.{Filter}
 use Rattle.graph.specs.Table.{Lawful, Table}
 use Rattle.law.specs.Theorems.{AlwaysBounded}

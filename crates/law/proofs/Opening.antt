@@ -2,7 +2,7 @@
 use Rattle.std.proofs.Common.{◌≡◌, ℕ, zero, suc, ◌+◌, ◌-◌, ◌<◌, ◌≤◌, Bool, true, false, cond, not, ◌&&◌, T, eqb, ltb, leb, ◌≢◌, ◌⊎◌, List, [], ◌∷◌, ◌++◌, length, get_or, take, set, Some, None, Option, sym, refl, ap, ◌∙◌, subst, ap₂, inl, inr, append_assoc, append-nil, arith, length-set, get_or-set_other, take-suc, get_or-set_same, take-suc-set, ltb-false, ltb-true, eqb-true, leb-false, leb-true}
 use native.Mathlib.Decide.{dec_lt, ℕ_discrete}
 use lib.Seq.{take-set-le}
-use borrow.Author.Tests.{eqb_false}
+use borrow.Author.Tests.{eqb-false}
 use Rattle.bound.specs.Value.{BoundValue, bytes_of, excluded, included, unbounded}
 use Rattle.bound.specs.Within.{is_reached}
 use Rattle.byte_strings.specs.Order.{Bytes, ◌≺◌, order}
@@ -274,7 +274,7 @@ module _ {S : Type 0} (g : Table) (f : Filter S) where
               (missing_sound (take d area) b v n r.total is at.leads absent (place_above g n b) (first_is (λ q. ltb b (byte_at g n q)) (g.len n) 0))
             where
               absent : (q : ℕ) → q < g.len n → byte_at g n q ≡ b → ⊥
-              absent q h d = let z = ltb-false p (g.len n) e in eqb_false (byte_at g n q) b (place.fails q (omega arith) (omega arith)) d
+              absent q h d = let z = ltb-false p (g.len n) e in eqb-false (byte_at g n q) b (place.fails q (omega arith) (omega arith)) d
 
     -- no lower bound, or an empty one
     module _ (keep : Bool) (rows : List (Row S)) (area : Bytes) (row_free : 0 < length rows)

@@ -1,6 +1,6 @@
 -- The outcomes of one look at the top row. Assumes nothing.
 use Rattle.std.proofs.Common.{◌≡◌, ℕ, zero, suc, ◌+◌, ◌-◌, ◌<◌, ◌≤◌, Bool, true, false, cond, not, ◌&&◌, ◌||◌, eqb, ltb, leb, ◌⊎◌, List, [], ◌∷◌, ◌++◌, length, get_or, take, set, Some, None, Option, sym, refl, ap, ◌∙◌, subst, inl, inr, arith, ltb-false, ltb-true, eqb-true, leb-false, leb-true}
-use borrow.Author.Tests.{not_true, not_false}
+use borrow.Author.Tests.{not-true, not-false}
 use Rattle.byte_strings.specs.Order.{Bytes}
 use Rattle.filter.specs.Filter.{Filter}
 use Rattle.graph.specs.Table.{Table}
@@ -74,14 +74,14 @@ module _ {S : Type 0} (g : Table) (f : Filter S) where
     arriving w false c p q = beyond d e w p refl
 
     present_of : leads_nowhere g f r ≡ false → r.position < g.len r.node
-    present_of s = ltb-true r.position (g.len r.node) (not_false (ltb r.position (g.len r.node)) (neither (not (ltb r.position (g.len r.node))) (not (f.can_match r.state)) s).0)
+    present_of s = ltb-true r.position (g.len r.node) (not-false (ltb r.position (g.len r.node)) (neither (not (ltb r.position (g.len r.node))) (not (f.can_match r.state)) s).0)
 
     writes_of : leads_nowhere g f r ≡ false → leb (length x.rows) (suc d) ≡ false → leb (length x.key_area) d ≡ false → Writes x d r
     writes_of s p q =
         let n = neither (not (ltb r.position (g.len r.node))) (not (f.can_match r.state)) s in
         record {
           present = present_of s;
-          can_go_on = not_false (f.can_match r.state) n.1;
+          can_go_on = not-false (f.can_match r.state) n.1;
           row_free = leb-false (length x.rows) (suc d) p;
           byte_free = leb-false (length x.key_area) d q;
         }

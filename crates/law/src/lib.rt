@@ -1,6 +1,7 @@
 //! The law of the search. Nothing here runs: the contract of each function is a theorem about the definitions of specs/,
 //! for all graphs, all filters whose states are of the named types, and all histories.
 #![tactic(auto)]
+
 ghost use Rattle.law.specs.Theorems.{HandedOutIsFront, Determined, Listable, AlwaysBounded, ExhaustedListsAll};
 ghost use Rattle.law.specs.Theorems.{UnionAndIntersectionCount, ComplementCount, ResumedListsTheRest, CanBeExhausted};
 

@@ -1,5 +1,6 @@
 //! Prints the table of the list "", "a", "ab", "b", alone and shifted, and how text and rows are refused.
 #![tactic(auto)]
+
 use graph::{Graph, Shift, Transition};
 use list::List;
 use names::{Name, Refusal};

@@ -1,5 +1,6 @@
 //! The program: the account of standard input, on standard output.
 #![tactic(auto)]
+
 use account::account;
 use std::io::{Read, Write};
 

@@ -1,5 +1,6 @@
 //! Opens small catalogues, good and damaged, and prints what comes of each.
 #![tactic(auto)]
+
 mod account;
 mod files;
 mod parts;
