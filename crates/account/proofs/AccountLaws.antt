@@ -1,11 +1,10 @@
 -- An account lists exactly the chosen names, in order. Assumes nothing.
-use Rattle.std.proofs.Common.{◌≡◌, ℕ, zero, suc, ◌+◌, ◌-◌, ◌<◌, ◌≤◌, Bool, true, false, cond, ◌⊎◌, ◌↔◌, List, [], ◌∷◌, length, get_or, sym, refl, ap, ◌∙◌, subst, inl, inr, arith}
-use Rattle.std.proofs.lemmas.Bool.{cond-true, cond-false, false≢true}
+use Rattle.std.proofs.Common.{◌≡◌, ℕ, zero, suc, ◌+◌, ◌<◌, Bool, true, false, cond, List, [], ◌∷◌, length, get_or, sym, refl, ap, ◌∙◌, subst, inl, inr, arith}
 use Rattle.byte_strings.specs.Order.{Bytes}
 use Rattle.input.specs.Asked.{Asked}
-use Rattle.account.specs.Chosen.{is_chosen, Chosen}
-use Rattle.account.specs.Account.{Entry, entry, entries_from, entries_of}
-use Rattle.account.specs.Law.{◌∈◌, Listed, TotalsRise, AccountLaw}
+use Rattle.account.specs.Chosen.{is_chosen}
+use Rattle.account.specs.Account.{Entry, entry, entries_from}
+use Rattle.account.specs.Law.{◌∈◌, TotalsRise, AccountLaw}
 use Rattle.account.proofs.ChosenNames.{chosen_said, chosen_test}
 
 -- the entry of the name at place p of the names from number i on, which is chosen

@@ -1,9 +1,8 @@
 -- The test of a chosen name says what its words say. Assumes nothing.
-use Rattle.std.proofs.Common.{◌≡◌, ℕ, Bool, true, false, cond, ◌&&◌, eqb, List, [], ◌∷◌, ◌++◌, Decides, sym, refl, ap, ◌∙◌, subst}
-use Rattle.std.proofs.lemmas.Bool.{eqb-true, eqb-false, eq-eqb, cond-true, cond-false, false≢true}
+use Rattle.std.proofs.Common.{◌≡◌, ℕ, Bool, true, false, cond, ◌&&◌, eqb, [], ◌∷◌, ◌++◌, Decides, sym, refl, ap, ◌∙◌, subst}
+use Rattle.std.proofs.lemmas.Bool.{eqb-true, eqb-false, false≢true}
 use Rattle.byte_strings.specs.Order.{Bytes, begins}
 use Rattle.byte_strings.proofs.OrderLaws.{begins_law}
-use Rattle.bound.specs.Within.{is_within, Within}
 use Rattle.bound.proofs.Words.{within_said, within_test}
 use Rattle.filter.specs.Meanings.{StartingWith, EqualTo, SubsequenceOf, ended, taken, skipped}
 use Rattle.input.specs.Asked.{Asked}

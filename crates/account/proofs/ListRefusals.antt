@@ -1,15 +1,15 @@
 -- The refusals of a list of names, by the names alone. Assumes nothing.
-use Rattle.std.proofs.Common.{◌≡◌, ℕ, ◌+◌, ◌-◌, ◌<◌, ◌≤◌, min, Bool, true, false, cond, ltb, leb, List, [], ◌∷◌, length, take, drop, Some, None, Option, sym, refl, ap, ◌∙◌, arith, length-drop}
+use Rattle.std.proofs.Common.{◌≡◌, ℕ, ◌+◌, ◌≤◌, Bool, true, false, cond, leb, List, [], ◌∷◌, length, drop, Some, None, Option, refl, ap, ◌∙◌, arith, length-drop}
 use Rattle.std.proofs.lemmas.List.{length-take-le}
-use Rattle.std.proofs.lemmas.Bool.{leb-true, le-leb, lt-leb, cond-true, cond-false}
+use Rattle.std.proofs.lemmas.Bool.{leb-true, le-leb, cond-true}
 use Rattle.std.specs.Option.{option_map}
 use Rattle.byte_strings.specs.Order.{Bytes}
 use Rattle.names.specs.declared.name.Name.{Name}
 use Rattle.names.specs.declared.refusal.Refusal.{Refusal}
-use Rattle.names.specs.declared.refusal.Refusal.TheVariants.{CountOutOfRange, NameOutOfRange, NotRising}
+use Rattle.names.specs.declared.refusal.Refusal.TheVariants.{NameOutOfRange, NotRising}
 use Rattle.names.specs.Names.{cut, names_of, is_inside, AllInside}
 use Rattle.names.specs.Numbers.{number_of}
-use Rattle.names.specs.Refusals.{is_in_range, is_above, refusal_at, or_else, refusal_from, refusal_of}
+use Rattle.names.specs.Refusals.{is_in_range, is_above, or_else, refusal_from, refusal_of}
 use Rattle.account.specs.Refusals.{names_refusal, list_refusal}
 
 cut_length : (text : Bytes) (r : Name) → is_inside text r ≡ true → length (cut text r) ≡ r.length

@@ -1,5 +1,5 @@
 -- The report of the chosen names, one name at a time. Assumes nothing.
-use Rattle.std.proofs.Common.{◌≡◌, ℕ, zero, suc, ◌+◌, ◌^◌, ◌<◌, ◌≤◌, Bool, true, false, cond, ltb, leb, List, [], ◌∷◌, ◌++◌, length, get_or, drop, Some, None, Ok, Err, vec_items, vec_len, Option, sym, refl, ap, ◌∙◌, subst, inl, inr, append_assoc, arith}
+use Rattle.std.proofs.Common.{◌≡◌, ℕ, zero, suc, ◌+◌, ◌^◌, ◌<◌, ◌≤◌, Bool, true, false, cond, ltb, List, [], ◌∷◌, ◌++◌, length, get_or, drop, Some, None, Ok, Err, vec_items, vec_len, Option, sym, refl, ap, ◌∙◌, subst, inl, inr, append_assoc, arith}
 use Rattle.std.proofs.lemmas.List.{drop_all, drop_more, get_or-map, length-map}
 use Rattle.std.proofs.lemmas.Bool.{lt-ltb, le-ltb, ltb-false, cases_lt, cond-true, cond-false}
 use Rattle.byte_strings.specs.Order.{Bytes}
@@ -10,7 +10,7 @@ use Rattle.input.specs.Asked.{Asked, nothing_asked, act_lines}
 use Rattle.input.specs.declared.reading.Input.{Input}
 use Rattle.input.specs.Reading.{asked_of, read_of, unless_bad}
 use Rattle.input.specs.Lines.{lines}
-use Rattle.input.specs.declared.refusal.Refusal.TheVariants.{InputTooLong, BadLine, TooManyNames}
+use Rattle.input.specs.declared.refusal.Refusal.TheVariants.{InputTooLong, TooManyNames}
 use Rattle.account.specs.Chosen.{is_chosen, chosen_at}
 use Rattle.account.specs.Account.{Entry, entry, entries_from, entries_of, key_line, end_line, refused_line, report}
 

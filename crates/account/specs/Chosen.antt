@@ -1,5 +1,5 @@
 -- Which names are chosen: as a test, and in words. Assumes nothing.
-use Rattle.std.specs.Prelude.{◌≡◌, ℕ, Bool, true, false, cond, ◌&&◌, List, [], ◌∷◌, ◌++◌, Some, None, Option, ◌==◌, slice_index_or}
+use Rattle.std.specs.Prelude.{◌≡◌, ℕ, Bool, true, false, cond, ◌&&◌, [], ◌∷◌, ◌++◌, Some, None, Option, ◌==◌, slice_index_or}
 use Rattle.byte_strings.specs.Order.{Bytes, begins}
 use Rattle.bound.specs.Within.{is_within, Within}
 use Rattle.filter.specs.Meanings.{SubsequenceOf}

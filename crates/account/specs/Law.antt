@@ -1,8 +1,7 @@
 -- What an account lists, in words of names. Assumes nothing.
-use Rattle.std.specs.Prelude.{◌≡◌, ℕ, ◌+◌, ◌<◌, true, ◌⊎◌, ◌↔◌, List, [], ◌∷◌, length, slice_index_or}
-use Rattle.byte_strings.specs.Order.{Bytes}
+use Rattle.std.specs.Prelude.{◌≡◌, ℕ, ◌+◌, ◌<◌, ◌⊎◌, ◌↔◌, List, [], ◌∷◌, length, slice_index_or}
 use Rattle.input.specs.Asked.{Asked}
-use Rattle.account.specs.Chosen.{is_chosen, Chosen}
+use Rattle.account.specs.Chosen.{Chosen}
 use Rattle.account.specs.Account.{Entry, entries_of}
 
 infix 50 ◌∈◌

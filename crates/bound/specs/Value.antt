@@ -1,5 +1,5 @@
 -- A bound by the bytes that it holds. Assumes nothing.
-use Rattle.std.specs.Prelude.{List, []}
+use Rattle.std.specs.Prelude.{[]}
 use Rattle.byte_strings.specs.Order.{Bytes}
 use Rattle.bound.specs.declared.Bound.{Bound}
 use Rattle.bound.specs.declared.Bound.TheVariants.{Unbounded, Included, Excluded}

@@ -1,7 +1,7 @@
 -- Byte strings that begin with one string, and their order. Assumes nothing.
-use Rattle.std.proofs.Common.{◌≡◌, ℕ, zero, suc, ◌+◌, ◌<◌, ◌≤◌, Bool, true, false, cond, eqb, ltb, ◌⊎◌, List, [], ◌∷◌, ◌++◌, length, get_or, take, sym, refl, ap, ◌∙◌, inl, inr, arith}
+use Rattle.std.proofs.Common.{◌≡◌, ℕ, zero, suc, ◌<◌, ◌≤◌, Bool, true, false, cond, eqb, ◌⊎◌, [], ◌∷◌, ◌++◌, length, get_or, take, sym, refl, ◌∙◌, inl, inr, arith}
 use Rattle.std.proofs.lemmas.Bool.{eqb-true, eq-eqb, cond-true, false≢true}
-use Rattle.byte_strings.specs.Order.{Bytes, order, ◌≺◌, begins}
+use Rattle.byte_strings.specs.Order.{Bytes, ◌≺◌, begins}
 use Rattle.byte_strings.proofs.Orders.{not_less, equal_not, less_cons}
 
 pub begun_cons : (x y : ℕ) (w a : Bytes) → begins (x ∷ w) (y ∷ a) ≡ true → (x ≡ y) × (begins w a ≡ true)

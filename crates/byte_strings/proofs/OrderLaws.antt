@@ -1,5 +1,5 @@
 -- The order of byte strings is the strict total order that its words say. Assumes nothing.
-use Rattle.std.proofs.Common.{◌≡◌, ℕ, ◌<◌, Bool, true, false, ◌⊎◌, List, [], ◌∷◌, ◌++◌, Ordering, Less, Equal, Greater, sym, refl, ap, ◌∙◌, subst, inl, inr, arith}
+use Rattle.std.proofs.Common.{◌≡◌, ℕ, ◌<◌, true, ◌⊎◌, [], ◌∷◌, ◌++◌, Greater, sym, refl, ap, ◌∙◌, subst, inl, inr, arith}
 use Rattle.std.specs.Ordering.{ordering_reverse}
 use Rattle.byte_strings.specs.Order.{Bytes, order, ◌≺◌, begins}
 use Rattle.byte_strings.specs.Laws.{Precedes, by_byte, by_end, OrderLaw, BeginsLaw}

@@ -1,8 +1,8 @@
 -- The order of byte strings. Assumes nothing.
-use Rattle.std.proofs.Common.{◌≡◌, ℕ, zero, suc, ◌+◌, ◌<◌, ◌≤◌, Bool, true, false, cond, eqb, ltb, ◌⊎◌, List, [], ◌∷◌, ◌++◌, length, Ordering, Less, Equal, Greater, sym, refl, ap, ◌∙◌, inl, inr, arith}
+use Rattle.std.proofs.Common.{◌≡◌, ℕ, ◌<◌, Bool, true, false, cond, ltb, ◌⊎◌, [], ◌∷◌, ◌++◌, length, Less, Equal, Greater, refl, ◌∙◌, inl, inr, arith}
 use Rattle.std.proofs.lemmas.Bool.{ltb-true, ltb-false, lt-ltb, le-ltb, cond-true, cond-false}
 use Rattle.std.specs.Ordering.{ordering_reverse, ordering_then}
-use Rattle.byte_strings.specs.Order.{Bytes, order, ◌≺◌, begins}
+use Rattle.byte_strings.specs.Order.{Bytes, order, ◌≺◌}
 
 -- an answer that is none of the others
 pub not_less : {P : Type 0} → Greater ≡ Less → P

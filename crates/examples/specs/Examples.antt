@@ -1,6 +1,5 @@
 -- Worked examples: what searches over small lists hand out. Assumes nothing.
-use Rattle.std.specs.Prelude.{◌≡◌, ℕ, List, [], ◌∷◌, Some, None, Option}
-use Rattle.byte_strings.specs.Order.{Bytes}
+use Rattle.std.specs.Prelude.{◌≡◌, ℕ, [], ◌∷◌, Some}
 use Rattle.bound.specs.Value.{BoundValue, unbounded, included, excluded}
 use Rattle.graph.specs.Table.{Table}
 use Rattle.graph.specs.Shifted.{shifted}

@@ -1,11 +1,11 @@
 -- A whole search on values, from its opening to its end or its first refusal. Assumes nothing.
-use Rattle.std.specs.Prelude.{ℕ, zero, suc, ◌⊎◌, List, take, replicate}
+use Rattle.std.specs.Prelude.{ℕ, zero, suc, ◌⊎◌, take, replicate}
 use Rattle.std.proofs.Common.{inl, inr}
 use Rattle.byte_strings.specs.Order.{Bytes}
 use Rattle.bound.specs.Value.{BoundValue}
 use Rattle.graph.specs.Table.{Table}
 use Rattle.filter.specs.Filter.{Filter}
-use Rattle.law.specs.Values.{Search, View, Answer, Handed, End, Refused, Result}
+use Rattle.law.specs.Values.{Search, View, Answer, Handed, End, Refused}
 use Rattle.law.specs.Next.{root_row, next_of}
 use Rattle.law.specs.Open.{Opening, open_of}
 

@@ -1,5 +1,6 @@
 //! Worked examples of the search, as one theorem about its definitions.
 #![tactic(auto)]
+
 ghost use Rattle.examples.specs.Examples.{Examples};
 
 /// Theorem: the worked examples hand out what they say.

@@ -1,5 +1,5 @@
 -- The keys of a graph: the bytes of its paths from the root to final nodes, with their totals as whole numbers. Assumes nothing.
-use Rattle.std.specs.Prelude.{◌≡◌, ℕ, ◌+◌, Bool, true, false, List, [], ◌∷◌, Some, None, Option}
+use Rattle.std.specs.Prelude.{◌≡◌, ℕ, ◌+◌, true, [], ◌∷◌, Some}
 use Rattle.byte_strings.specs.Order.{Bytes}
 use Rattle.graph.specs.declared.Transition.{Transition}
 use Rattle.graph.specs.Table.{Table}

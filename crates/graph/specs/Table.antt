@@ -1,5 +1,5 @@
 -- A graph of names by the table of its answers, and the laws that every table keeps. Assumes nothing.
-use Rattle.std.specs.Prelude.{◌≡◌, ℕ, ◌<◌, ◌≤◌, Bool, true, false, Some, None, Option, ◌≢◌}
+use Rattle.std.specs.Prelude.{◌≡◌, ℕ, ◌<◌, ◌≤◌, Bool, false, Some, None, Option, ◌≢◌}
 use Rattle.graph.specs.declared.Transition.{Transition}
 
 pub record Table : Type 0 where

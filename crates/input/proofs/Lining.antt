@@ -1,5 +1,5 @@
 -- One line of a text, and its effect. Assumes nothing.
-use Rattle.std.proofs.Common.{◌≡◌, ℕ, zero, suc, ◌+◌, ◌-◌, ◌<◌, ◌≤◌, Bool, true, false, cond, eqb, List, [], ◌∷◌, ◌++◌, length, get_or, take, drop, Some, None, Ok, Err, vec_items, vec_len, Option, sym, refl, ap, ◌∙◌, subst, arith}
+use Rattle.std.proofs.Common.{◌≡◌, ℕ, zero, suc, ◌+◌, ◌-◌, ◌<◌, ◌≤◌, true, List, [], ◌∷◌, ◌++◌, length, get_or, take, drop, Some, None, Ok, Err, vec_items, vec_len, Option, sym, refl, ap, ◌∙◌, arith}
 use Rattle.std.proofs.lemmas.List.{drop_all, drop_more, get_or-drop, length-drop, drop-drop, length-map}
 use Rattle.names.specs.Names.{cut, is_inside, AllInside}
 use Rattle.names.specs.declared.name.Name.{Name}
@@ -11,7 +11,7 @@ use Rattle.input.specs.Lines.{lines, onto_first}
 use Rattle.input.specs.declared.refusal.ReadError.{ReadError}
 use Rattle.input.specs.declared.refusal.ReadError.TheVariants.{Refused, OutOfMemory}
 use Rattle.input.specs.Steps.{LineEnd, Acts}
-use Rattle.input.specs.Reading.{Reads, read_of, unless_bad, counted, asked_of}
+use Rattle.input.specs.Reading.{read_of, unless_bad, counted, asked_of}
 use Rattle.input.specs.declared.refusal.Refusal.TheVariants.{TooManyNames}
 use Rattle.input.specs.declared.reading.Input.{Input}
 

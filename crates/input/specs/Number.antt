@@ -1,5 +1,5 @@
 -- The number of a shift. Assumes nothing.
-use Rattle.std.specs.Prelude.{ℕ, ◌+◌, ◌-◌, ◌*◌, Bool, true, false, cond, ◌&&◌, List, [], ◌∷◌, length, Some, None, Option, nat_le}
+use Rattle.std.specs.Prelude.{ℕ, ◌+◌, ◌-◌, ◌*◌, Bool, true, cond, ◌&&◌, [], ◌∷◌, length, Some, None, Option, nat_le}
 use Rattle.byte_strings.specs.Order.{Bytes}
 
 -- the largest number of 64 bits

@@ -1,8 +1,7 @@
 -- One line at a time. Assumes nothing.
 use Rattle.std.specs.Prelude.{◌≡◌, ℕ, ◌<◌, ◌≤◌, length, Some, None, Ok, Err, vec_items, Option, Result, ◌≢◌, slice_index}
 use Rattle.byte_strings.specs.Order.{Bytes}
-use Rattle.input.specs.declared.refusal.Refusal.{Refusal}
-use Rattle.input.specs.declared.refusal.Refusal.TheVariants.{InputTooLong, BadLine, TooManyNames}
+use Rattle.input.specs.declared.refusal.Refusal.TheVariants.{BadLine}
 use Rattle.input.specs.declared.refusal.ReadError.{ReadError}
 use Rattle.input.specs.declared.refusal.ReadError.TheVariants.{Refused, OutOfMemory}
 use Rattle.input.specs.declared.reading.Input.{Input}

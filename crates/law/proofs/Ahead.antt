@@ -1,18 +1,17 @@
 -- What lies ahead of a top row, by the order of keys alone. Assumes nothing.
-use Rattle.std.proofs.Common.{◌≡◌, ℕ, zero, suc, ◌+◌, ◌<◌, ◌≤◌, Bool, true, false, not, ◌||◌, T, ltb, ◌≢◌, ◌⊎◌, List, [], ◌∷◌, ◌++◌, Some, None, Option, sym, refl, ap, ◌∙◌, subst, inl, inr, append_assoc, append-nil, arith, ltb-false, ltb-true}
+use Rattle.std.proofs.Common.{◌≡◌, ℕ, suc, ◌+◌, ◌<◌, ◌≤◌, Bool, true, false, not, ◌||◌, ltb, ◌⊎◌, [], ◌∷◌, ◌++◌, Some, None, Option, sym, refl, ap, ◌∙◌, subst, inl, inr, append_assoc, append-nil, arith, ltb-false}
 use mathlib.Core.List.{append_cancel_left}
-use native.Mathlib.Decide.{dec_lt, dec_le, ℕ_discrete}
-use borrow.Author.Tests.{not-true, not-false}
-use Rattle.byte_strings.specs.Order.{Bytes, ◌≺◌, order}
+use native.Mathlib.Decide.{dec_lt, ℕ_discrete}
+use Rattle.byte_strings.specs.Order.{Bytes, ◌≺◌}
 use Rattle.filter.specs.Filter.{Filter, Lawful as LawfulFilter, run, verdict_at, verdict_by}
 use Rattle.graph.specs.Keys.{Key}
 use Rattle.graph.specs.Table.{Lawful, Table}
 use Rattle.law.proofs.Positions.{LeadsBy, by_positions}
 use Rattle.law.specs.declared.Row.{Row}
 use Rattle.law.specs.Values.{byte_at, output_at, target_at}
-use Rattle.law.specs.Next.{goes, leads_nowhere}
-use Rattle.law.proofs.Positions.{rising, sinking}
-use Rattle.byte_strings.proofs.Orders.{less_cons, differ, agree, irreflexive, transitive}
+use Rattle.law.specs.Next.{leads_nowhere}
+use Rattle.law.proofs.Positions.{rising}
+use Rattle.byte_strings.proofs.Orders.{less_cons, differ, agree, transitive}
 use Rattle.law.proofs.Order.{none_below}
 use Rattle.law.proofs.Unique.{one_end}
 use Rattle.law.proofs.Tree.{behind, not_behind}

@@ -1,11 +1,10 @@
 -- What each call owes, from the law of the search. Assumes nothing.
-use Rattle.std.proofs.Common.{◌≡◌, ℕ, ◌+◌, Bool, true, false, eqb, ◌⊎◌, List, [], ◌∷◌, ◌++◌, length, sym, refl, ap, ◌∙◌, subst, inl, inr, arith, eq-eqb}
+use Rattle.std.proofs.Common.{◌≡◌, ℕ, ◌+◌, Bool, eqb, ◌⊎◌, List, [], ◌++◌, length, sym, refl, ap, ◌∙◌, subst, inl, inr, eq-eqb}
 use Rattle.byte_strings.specs.Order.{Bytes}
 use Rattle.bound.specs.Value.{BoundValue}
 use Rattle.graph.specs.Table.{Table, Lawful}
 use Rattle.filter.specs.Filter.{Filter, Lawful as LawfulFilter}
 use Rattle.law.specs.declared.Row.{Row}
-use Rattle.law.specs.Entries.{Entry, Lists}
 use Rattle.law.specs.Values.{Search, View, Answer, Part}
 use Rattle.law.specs.Next.{next_of, key_of}
 use Rattle.law.specs.Open.{open_of}

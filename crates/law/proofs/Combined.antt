@@ -1,14 +1,12 @@
 -- The counts of exhausted searches, and a search that goes on elsewhere. Assumes nothing.
-use Rattle.std.proofs.Common.{◌≡◌, ℕ, suc, ◌+◌, List, [], ◌∷◌, ◌++◌, length, sym, refl, ap, ◌∙◌, subst, append_assoc, arith, length-append}
-use Rattle.bound.specs.Value.{BoundValue, excluded}
-use Rattle.graph.specs.Table.{Table, Lawful}
-use Rattle.filter.specs.Filter.{Filter, Lawful as LawfulFilter}
+use Rattle.std.proofs.Common.{◌≡◌, ◌+◌, List, [], ◌∷◌, ◌++◌, length, sym, ap, subst, append_assoc, arith, length-append}
+use Rattle.bound.specs.Value.{excluded}
 use Rattle.filter.specs.Tables.{union_table, intersection_table, complement_table, always_match_table}
 use Rattle.filter.proofs.Lawful.{always_match_table_lawful, complement_table_lawful, union_table_lawful, intersection_table_lawful}
 use Rattle.law.specs.Entries.{Entry, Lists}
 use Rattle.law.specs.Values.{Search, View}
 use Rattle.law.specs.History.{History}
-use Rattle.law.specs.Theorems.{Exhausted, UnionAndIntersectionCount, ComplementCount, ResumedListsTheRest, GoesOnElsewhere}
+use Rattle.law.specs.Theorems.{Exhausted, UnionAndIntersectionCount, ComplementCount, ResumedListsTheRest}
 use Rattle.law.proofs.Kept.{either_both, complemented}
 use Rattle.law.proofs.Resume.{resumed}
 use Rattle.law.proofs.Histories.{exhausted_lists_all, handed_out_is_front}

@@ -1,5 +1,5 @@
 -- With spare enough, and totals and keys that fit, a search comes to its end. Assumes nothing.
-use Rattle.std.proofs.Common.{◌≡◌, ℕ, zero, suc, ◌+◌, ◌-◌, ◌<◌, ◌≤◌, Bool, true, false, cond, eqb, ltb, leb, ◌⊎◌, List, [], ◌∷◌, ◌++◌, length, get_or, take, set, Some, None, Option, sym, refl, ap, ◌∙◌, subst, inl, inr, append_assoc, append-nil, arith, length-append, length-set, length-take-le, le-ltb}
+use Rattle.std.proofs.Common.{◌≡◌, ℕ, zero, suc, ◌+◌, ◌-◌, ◌<◌, ◌≤◌, Bool, true, false, cond, eqb, List, [], ◌∷◌, ◌++◌, length, take, set, Some, None, Option, sym, refl, ap, ◌∙◌, subst, inl, append-nil, arith, length-append, length-set, length-take-le, le-ltb}
 use Rattle.bound.specs.Value.{BoundValue}
 use Rattle.byte_strings.specs.Order.{Bytes}
 use Rattle.filter.specs.Filter.{Filter, Lawful as LawfulFilter, verdict_at}
@@ -12,7 +12,7 @@ use Rattle.law.proofs.Members.{in_right}
 use Rattle.law.specs.Entries.{◌∈◌, Entry, Lists}
 use Rattle.law.specs.History.{History, Serves, entries, given_out, next}
 use Rattle.law.proofs.Positions.{LeadsBy, by_positions}
-use Rattle.law.proofs.Positions.{rising, sinking}
+use Rattle.law.proofs.Positions.{sinking}
 use Rattle.law.proofs.Step.{Outcome, ended, removed, refused, beyond, given, passed, outcome, top}
 use Rattle.law.proofs.Looks.{always_bounded}
 use Rattle.law.proofs.Invariant.{Stands, row}

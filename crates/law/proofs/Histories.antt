@@ -1,11 +1,11 @@
 -- The law of the search over every history, and what follows from it. Assumes nothing.
-use Rattle.std.proofs.Common.{◌≡◌, ℕ, zero, suc, ◌+◌, ◌-◌, ◌<◌, ◌≤◌, Bool, true, false, cond, not, ◌⊎◌, List, [], ◌∷◌, ◌++◌, length, take, Some, None, Option, sym, refl, ap, ◌∙◌, subst, inl, inr, append_assoc, append-nil, arith, length-append}
+use Rattle.std.proofs.Common.{◌≡◌, ℕ, ◌-◌, Bool, true, false, cond, List, [], ◌∷◌, ◌++◌, length, take, Option, sym, refl, ap, ◌∙◌, subst, append_assoc, append-nil, arith}
 use mathlib.Core.List.{append_cancel_left}
 use Rattle.bound.specs.Value.{BoundValue}
 use Rattle.byte_strings.specs.Order.{Bytes}
 use Rattle.filter.specs.Filter.{Filter, Lawful as LawfulFilter}
 use Rattle.graph.specs.Table.{Lawful, Table}
-use Rattle.law.specs.Values.{Answer, End, Handed, NoPart, Part, Refused, Search, Standing, View, too_short, with_search, without_key}
+use Rattle.law.specs.Values.{Answer, End, Handed, NoPart, Refused, Search, Standing, View, too_short, with_search, without_key}
 use Rattle.law.specs.Entries.{Entry, Lists}
 use Rattle.law.specs.Theorems.{Exhausted, ExhaustedListsAll, Fits, HandedOutIsFront, Owes, Reason, stack_full, key_area_full, path_too_large, total_too_large, count_full}
 use Rattle.law.specs.History.{History, entries, given_out, key, key_refused, next, next_refused, opened}

@@ -1,6 +1,5 @@
 -- The invariant of the stack, and that each look keeps it. Assumes nothing.
-use Rattle.std.proofs.Common.{◌≡◌, ℕ, zero, suc, ◌+◌, ◌-◌, ◌<◌, ◌≤◌, Bool, true, false, not, ◌&&◌, T, ◌≢◌, ◌⊎◌, List, [], ◌∷◌, ◌++◌, length, get_or, take, set, Some, None, Option, sym, refl, ap, ◌∙◌, subst, ap₂, inl, inr, arith, length-set, get_or-set_other, take-suc, get_or-set_same, take-suc-set}
-use mathlib.Core.Path.{fun_ext}
+use Rattle.std.proofs.Common.{◌≡◌, ℕ, zero, suc, ◌<◌, ◌≤◌, Bool, true, false, ◌&&◌, T, ◌≢◌, ◌⊎◌, List, [], ◌∷◌, ◌++◌, length, get_or, take, set, sym, refl, ap, ◌∙◌, subst, ap₂, inl, inr, arith, length-set, get_or-set_other, take-suc, get_or-set_same, take-suc-set}
 use native.Mathlib.Decide.{dec_lt, ℕ_discrete}
 use lib.Seq.{take-set-le}
 use Rattle.bound.specs.Value.{BoundValue}
@@ -12,12 +11,12 @@ use Rattle.law.specs.Entries.{Belongs, Entry}
 use Rattle.law.proofs.Positions.{LeadsBy, by_positions, of_positions}
 use Rattle.law.specs.declared.Row.{Row}
 use Rattle.law.specs.Values.{byte_at, is_admitted, key_total, onward, step_byte, target_at}
-use Rattle.law.specs.Next.{deeper, due, grown, leads_nowhere, root_row}
+use Rattle.law.specs.Next.{deeper, due, leads_nowhere, root_row}
 use Rattle.bound.proofs.Words.{to_said}
 use Rattle.law.proofs.Order.{upper_down, upper_of, reached_said, none_below}
 use Rattle.law.proofs.Unique.{one_end}
-use Rattle.law.proofs.Order.{to_true, of_true}
-use Rattle.law.proofs.Ahead.{Ahead, onto, at_once, back_from, off, off_back, stuck, leads_on, run_on, shorter}
+use Rattle.law.proofs.Order.{of_true}
+use Rattle.law.proofs.Ahead.{Ahead, onto, at_once, back_from, off, off_back, stuck, leads_on, run_on}
 use Rattle.law.proofs.Frame.{Frame, frame_same, frame_hand}
 
 true_and : (a b : Bool) → (a && b) ≡ true → (a ≡ true) × (b ≡ true)

@@ -1,5 +1,5 @@
 -- Each list is what a test keeps of the list of all keys, so lists are counted by their tests. Assumes nothing.
-use Rattle.std.proofs.Common.{◌≡◌, ℕ, zero, suc, ◌+◌, ◌<◌, ◌≤◌, Bool, true, false, cond, not, ◌&&◌, ◌||◌, T, ◌⊎◌, ◌↔◌, List, [], ◌∷◌, ◌++◌, length, sym, refl, ap, ◌∙◌, subst, inl, inr, arith}
+use Rattle.std.proofs.Common.{◌≡◌, ℕ, ◌+◌, Bool, true, false, cond, not, ◌&&◌, ◌||◌, List, [], ◌∷◌, length, sym, refl, ap, ◌∙◌, subst, inl, inr, arith}
 use Rattle.bound.specs.Value.{BoundValue}
 use Rattle.bound.specs.Within.{is_within}
 use Rattle.bound.proofs.Words.{within_said, within_test}
@@ -14,7 +14,6 @@ use Rattle.filter.proofs.Runs.{union_run, intersection_run, complement_run}
 use Rattle.graph.specs.Table.{Lawful, Table}
 use Rattle.law.specs.Entries.{Belongs, Entry, Lists, Rises, ◌∈◌}
 use Rattle.law.specs.Theorems.{GivesNoEndState, Listable}
-use Rattle.law.specs.Values.{is_admitted}
 use Rattle.law.proofs.Unique.{determined}
 use Rattle.law.proofs.Tree.{E, entry, all_keys, all_rise, all_are_keys, keys_are_all}
 

@@ -1,7 +1,6 @@
 -- `next` ends: the looks that a row can cost fall at each look, from every search and areas. Assumes nothing.
-use Rattle.std.proofs.Common.{◌≡◌, ℕ, zero, suc, ◌+◌, ◌-◌, ◌<◌, ◌≤◌, not, ltb, leb, ◌≢◌, ◌⊎◌, List, [], ◌∷◌, ◌++◌, length, get_or, take, set, Some, None, Option, sym, refl, ap, ◌∙◌, subst, inl, inr, arith, length-set, get_or-set_other, get_or-set_same, ltb-false, ltb-true, leb-false, leb-true}
+use Rattle.std.proofs.Common.{◌≡◌, ℕ, zero, suc, ◌+◌, ◌-◌, ◌<◌, ◌≤◌, ◌≢◌, List, length, get_or, set, sym, refl, ◌∙◌, subst, arith, length-set, get_or-set_other, get_or-set_same}
 use native.Mathlib.Decide.{dec_lt}
-use borrow.Author.Tests.{not-true, not-false}
 use Rattle.filter.specs.Filter.{Filter}
 use Rattle.graph.specs.Table.{Lawful, Table}
 use Rattle.law.specs.Theorems.{AlwaysBounded}
@@ -9,7 +8,7 @@ use Rattle.law.specs.Values.{Answer, Result, View, onward, target_at}
 use Rattle.law.specs.Next.{Done, More, Move, Walks, after, all_looks, deeper, goes, looking, looks, looks_along, root_row, step, stops, walk}
 use Rattle.law.specs.declared.Row.{Row}
 use Rattle.law.proofs.Step.{Outcome, ended, removed, refused, beyond, given, passed, outcome, never, more_same}
-use Rattle.law.proofs.Positions.{rising, sinking}
+use Rattle.law.proofs.Positions.{sinking}
 
 module _ {S : Type 0} (g : Table) (f : Filter S) (law : Lawful g) where
   along_same : (a b : ℕ → ℕ) (k p : ℕ) → ((q : ℕ) → q < p + k → a q ≡ b q) → looks_along a k p ≡ looks_along b k p

@@ -1,11 +1,11 @@
 -- A newly opened search stands before the first key that the lower bound lets in. Assumes nothing.
-use Rattle.std.proofs.Common.{◌≡◌, ℕ, zero, suc, ◌+◌, ◌-◌, ◌<◌, ◌≤◌, Bool, true, false, cond, not, ◌&&◌, T, eqb, ltb, leb, ◌≢◌, ◌⊎◌, List, [], ◌∷◌, ◌++◌, length, get_or, take, set, Some, None, Option, sym, refl, ap, ◌∙◌, subst, ap₂, inl, inr, append_assoc, append-nil, arith, length-set, get_or-set_other, take-suc, get_or-set_same, take-suc-set, ltb-false, ltb-true, eqb-true, leb-false, leb-true}
+use Rattle.std.proofs.Common.{◌≡◌, ℕ, zero, suc, ◌+◌, ◌-◌, ◌<◌, ◌≤◌, Bool, true, false, cond, ◌&&◌, T, eqb, ltb, leb, ◌≢◌, ◌⊎◌, List, [], ◌∷◌, ◌++◌, length, get_or, take, set, Some, None, sym, refl, ap, ◌∙◌, subst, inl, inr, append_assoc, append-nil, arith, length-set, get_or-set_other, take-suc, get_or-set_same, take-suc-set, ltb-false, ltb-true, eqb-true, leb-false}
 use native.Mathlib.Decide.{dec_lt, ℕ_discrete}
 use lib.Seq.{take-set-le}
 use borrow.Author.Tests.{eqb-false}
 use Rattle.bound.specs.Value.{BoundValue, bytes_of, excluded, included, unbounded}
 use Rattle.bound.specs.Within.{is_reached}
-use Rattle.byte_strings.specs.Order.{Bytes, ◌≺◌, order}
+use Rattle.byte_strings.specs.Order.{Bytes, ◌≺◌}
 use Rattle.filter.specs.Filter.{Filter}
 use Rattle.graph.specs.Keys.{Key}
 use Rattle.graph.specs.Table.{Lawful, Table}
@@ -14,10 +14,9 @@ use Rattle.law.proofs.Positions.{LeadsBy}
 use Rattle.law.specs.Open.{Opening, first_place, is_inclusive, new_search, open_of, place_above, place_of, seek, settle, start_at}
 use Rattle.law.specs.declared.Row.{Row}
 use Rattle.law.specs.Values.{Search, at_position, byte_at, key_total, most, onward}
-use Rattle.law.specs.Next.{deeper, root_row, written}
-use Rattle.std.specs.Ordering.{is_le, is_lt}
-use Rattle.law.proofs.Positions.{rising, sinking}
-use Rattle.byte_strings.proofs.Orders.{less_cons, differ, irreflexive, transitive, order_self}
+use Rattle.law.specs.Next.{deeper, root_row}
+use Rattle.law.proofs.Positions.{rising}
+use Rattle.byte_strings.proofs.Orders.{less_cons, differ, transitive}
 use Rattle.law.proofs.Order.{none_below, lower_of, reached as reached_by, reached_said, of_true}
 use Rattle.law.proofs.Tree.{behind, not_behind}
 use Rattle.law.proofs.Ahead.{Ahead, split, shorter, through, onto, at_once, back_from, leads_on, run_on}

@@ -1,9 +1,9 @@
 -- Bounds along the order of keys. Assumes nothing.
-use Rattle.std.proofs.Common.{◌≡◌, Bool, true, false, not, T, ◌⊎◌, List, [], ◌∷◌, ◌++◌, sym, refl, ap, ◌∙◌, subst, inl, inr}
-use Rattle.byte_strings.specs.Order.{Bytes, order, ◌≺◌}
+use Rattle.std.proofs.Common.{◌≡◌, Bool, true, false, T, [], ◌∷◌, refl, inl, inr}
+use Rattle.byte_strings.specs.Order.{Bytes, ◌≺◌}
 use Rattle.byte_strings.proofs.Orders.{transitive, not_less, equal_not}
 use Rattle.bound.specs.Value.{BoundValue, unbounded, included, excluded}
-use Rattle.bound.specs.Within.{is_reached, is_exceeded, From, To, Within}
+use Rattle.bound.specs.Within.{is_reached, From, To, Within}
 use Rattle.bound.proofs.Words.{from_said, from_test, to_said, to_test}
 use Rattle.law.specs.Values.{is_admitted}
 

@@ -1,5 +1,5 @@
 -- Above an entry of a list stands what comes after it. Assumes nothing.
-use Rattle.std.proofs.Common.{◌≡◌, ℕ, ◌+◌, ◌⊎◌, ◌↔◌, List, [], ◌∷◌, ◌++◌, sym, refl, ap, ◌∙◌, subst, inl, inr}
+use Rattle.std.proofs.Common.{◌≡◌, ◌⊎◌, List, [], ◌∷◌, ◌++◌, sym, refl, ◌∙◌, subst, inl, inr}
 use Rattle.bound.specs.Value.{BoundValue, excluded}
 use Rattle.byte_strings.specs.Order.{◌≺◌}
 use Rattle.filter.specs.Filter.{Filter}
@@ -7,7 +7,7 @@ use Rattle.graph.specs.Table.{Lawful, Table}
 use Rattle.law.specs.Entries.{Belongs, Entry, Lists, Rises, ◌∈◌}
 use Rattle.byte_strings.proofs.Orders.{irreflexive, transitive}
 use Rattle.law.proofs.Order.{from_up}
-use Rattle.law.proofs.Members.{in_left, in_right, in_either, rises_right, rises_across}
+use Rattle.law.proofs.Members.{in_right, in_either, rises_right, rises_across}
 use Rattle.law.proofs.Unique.{determined}
 
 module _ {S : Type 0} (g : Table) (f : Filter S) (lo hi : BoundValue) (law : Lawful g) where

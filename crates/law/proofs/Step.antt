@@ -1,13 +1,12 @@
 -- The outcomes of one look at the top row. Assumes nothing.
-use Rattle.std.proofs.Common.{◌≡◌, ℕ, zero, suc, ◌+◌, ◌-◌, ◌<◌, ◌≤◌, Bool, true, false, cond, not, ◌&&◌, ◌||◌, eqb, ltb, leb, ◌⊎◌, List, [], ◌∷◌, ◌++◌, length, get_or, take, set, Some, None, Option, sym, refl, ap, ◌∙◌, subst, inl, inr, arith, ltb-false, ltb-true, eqb-true, leb-false, leb-true}
-use borrow.Author.Tests.{not-true, not-false}
+use Rattle.std.proofs.Common.{◌≡◌, ℕ, zero, suc, ◌<◌, ◌≤◌, Bool, true, false, cond, not, ◌&&◌, ◌||◌, eqb, ltb, leb, length, get_or, refl, arith, ltb-true, eqb-true, leb-false, leb-true}
+use borrow.Author.Tests.{not-false}
 use Rattle.byte_strings.specs.Order.{Bytes}
 use Rattle.filter.specs.Filter.{Filter}
 use Rattle.graph.specs.Table.{Table}
 use Rattle.law.specs.Values.{Answer, End, Handed, Refused, View, at_depth, handed_out, is_admitted, key_total, most, most_keys, with_search}
 use Rattle.law.specs.Next.{Done, More, Move, arrived, deeper, descend, due, grown, leads_nowhere, look, root_row, step, written}
 use Rattle.law.specs.declared.Row.{Row}
-use Rattle.law.specs.Theorems.{count_full}
 
 -- a move is not both
 pub never : {S : Type 0} {a : Answer S} {x y : View S} → Done a x ≡ More y → ⊥

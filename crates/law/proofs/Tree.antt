@@ -1,12 +1,11 @@
 -- All keys of a lawful graph, in rising order. Assumes nothing.
-use Rattle.std.proofs.Common.{◌≡◌, ℕ, zero, suc, ◌+◌, ◌<◌, ◌≤◌, Bool, true, false, cond, not, T, ◌⊎◌, ◌↔◌, List, [], ◌∷◌, ◌++◌, sym, refl, ap, ◌∙◌, subst, inl, inr, append_assoc, append-nil, arith}
+use Rattle.std.proofs.Common.{◌≡◌, ℕ, zero, suc, ◌+◌, ◌<◌, Bool, true, false, cond, T, ◌⊎◌, List, [], ◌∷◌, ◌++◌, sym, refl, ap, ◌∙◌, subst, inl, inr, append_assoc, append-nil, arith}
 use Rattle.byte_strings.specs.Order.{Bytes, ◌≺◌}
 use Rattle.graph.specs.Keys.{Key}
 use Rattle.graph.specs.Table.{Lawful, Table}
 use Rattle.law.specs.Entries.{Entry, Rises, ◌∈◌}
 use Rattle.law.proofs.Positions.{LeadsBy, by_positions, of_positions, rising, sinking}
-use Rattle.law.specs.Values.{byte_at, most, output_at, target_at}
-use Rattle.law.specs.Next.{goes, key_of}
+use Rattle.law.specs.Values.{byte_at, output_at, target_at}
 use Rattle.byte_strings.proofs.Orders.{order_front, differ}
 use Rattle.law.proofs.Members.{in_left, in_right, in_either, Before, rises_join, along, in_along, along_in, rises_along}
 

@@ -1,5 +1,5 @@
 -- The rising list is determined by what belongs to it. Assumes nothing.
-use Rattle.std.proofs.Common.{◌≡◌, ℕ, ◌+◌, ◌<◌, ◌⊎◌, ◌↔◌, List, [], ◌∷◌, ◌++◌, sym, refl, ap, ◌∙◌, subst, inl, inr, arith}
+use Rattle.std.proofs.Common.{◌≡◌, ℕ, ◌+◌, ◌<◌, ◌⊎◌, ◌↔◌, List, [], ◌∷◌, sym, refl, ap, ◌∙◌, inl, inr, arith}
 use native.Mathlib.Decide.{dec_lt}
 use Rattle.bound.specs.Value.{BoundValue}
 use Rattle.byte_strings.specs.Order.{Bytes}
@@ -10,7 +10,6 @@ use Rattle.law.specs.Entries.{Belongs, Entry, Rises, ◌∈◌}
 use Rattle.law.specs.Theorems.{Determined}
 use Rattle.law.proofs.Positions.{LeadsBy}
 use Rattle.law.specs.Values.{byte_at, output_at, target_at}
-use Rattle.law.specs.History.{entries}
 use Rattle.graph.proofs.Paths.{key_has_one_path_and_one_total}
 use Rattle.law.proofs.Positions.{rising}
 use Rattle.byte_strings.proofs.Orders.{irreflexive, transitive}

@@ -1,5 +1,5 @@
 -- `next` keeps the invariant, and what its answers say. Assumes nothing.
-use Rattle.std.proofs.Common.{◌≡◌, ℕ, zero, suc, ◌+◌, ◌-◌, ◌<◌, ◌≤◌, Bool, true, false, cond, not, ◌&&◌, ◌||◌, T, eqb, ltb, leb, ◌≢◌, ◌⊎◌, List, [], ◌∷◌, ◌++◌, length, get_or, take, set, Some, None, Option, sym, refl, ap, ◌∙◌, subst, ap₂, inl, inr, append_assoc, append-nil, arith, length-append, length-set, length-take-le, get_or-take, take-take, ltb-false, eqb-true, leb-true}
+use Rattle.std.proofs.Common.{◌≡◌, ℕ, zero, suc, ◌-◌, ◌<◌, ◌≤◌, Bool, true, false, cond, ◌||◌, T, eqb, ltb, ◌⊎◌, List, [], ◌∷◌, ◌++◌, length, get_or, take, set, Some, None, Option, sym, refl, ap, ◌∙◌, subst, ap₂, inl, inr, append_assoc, append-nil, arith, length-append, length-set, length-take-le, get_or-take, take-take, ltb-false, eqb-true}
 use Rattle.bound.specs.Value.{BoundValue}
 use Rattle.byte_strings.specs.Order.{Bytes, ◌≺◌}
 use Rattle.filter.specs.Filter.{Filter, Lawful as LawfulFilter, run, verdict_at}

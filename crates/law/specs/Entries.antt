@@ -1,5 +1,5 @@
 -- What a search owes, in the subject's own words: all accepted keys within the bounds, in rising order. Assumes nothing.
-use Rattle.std.specs.Prelude.{◌≡◌, ℕ, Bool, true, false, ◌⊎◌, ◌↔◌, List, [], ◌∷◌}
+use Rattle.std.specs.Prelude.{◌≡◌, ℕ, true, ◌⊎◌, ◌↔◌, List, [], ◌∷◌}
 use Rattle.byte_strings.specs.Order.{Bytes, ◌≺◌}
 use Rattle.bound.specs.Value.{BoundValue}
 use Rattle.bound.specs.Within.{Within}

@@ -1,6 +1,6 @@
 -- Every history of one search: opened, and then called by `next` and `key` in any number and order, refused calls included. Assumes nothing.
-use Rattle.std.specs.Prelude.{◌≡◌, ℕ, ◌-◌, Bool, true, false, ◌⊎◌, List, [], ◌∷◌, ◌++◌, take}
-use Rattle.std.proofs.Common.{inl, inr}
+use Rattle.std.specs.Prelude.{◌≡◌, ◌-◌, true, false, List, [], ◌∷◌, ◌++◌, take}
+use Rattle.std.proofs.Common.{inl}
 use Rattle.byte_strings.specs.Order.{Bytes}
 use Rattle.bound.specs.Value.{BoundValue}
 use Rattle.graph.specs.Table.{Table}

@@ -1,5 +1,5 @@
 -- `open` on values: what it answers and what it leaves. Assumes nothing.
-use Rattle.std.specs.Prelude.{ℕ, zero, suc, ◌+◌, ◌-◌, Bool, true, false, cond, ◌&&◌, ltb, ◌⊎◌, List, [], ◌∷◌, length, set, Some, None, Option, nat_eq, nat_le, nat_lt, slice_index_or, slice_set}
+use Rattle.std.specs.Prelude.{ℕ, zero, suc, ◌-◌, Bool, true, false, cond, ◌&&◌, ltb, ◌⊎◌, List, [], ◌∷◌, length, set, Some, None, Option, nat_eq, nat_le, nat_lt, slice_index_or, slice_set}
 use Rattle.std.proofs.Common.{inl, inr}
 use Rattle.byte_strings.specs.Order.{Bytes}
 use Rattle.bound.specs.Value.{BoundValue, unbounded, included, excluded, bytes_of}

@@ -1,16 +1,13 @@
 -- The theorems about whole searches, for all tables and all histories. Each is named by the contract of a function. Assumes nothing.
-use Rattle.std.specs.Prelude.{◌≡◌, ℕ, suc, ◌+◌, ◌<◌, ◌≤◌, Bool, true, false, List, [], ◌∷◌, ◌++◌, length, take, Some, None, Option}
+use Rattle.std.specs.Prelude.{◌≡◌, ℕ, suc, ◌+◌, ◌<◌, ◌≤◌, true, false, List, [], ◌∷◌, ◌++◌, length, take, None}
 use Rattle.byte_strings.specs.Order.{Bytes}
 use Rattle.bound.specs.Value.{BoundValue, excluded}
 use Rattle.graph.specs.Table.{Table, Lawful}
 use Rattle.graph.specs.Keys.{Leads, Key}
 use Rattle.filter.specs.Filter.{Filter, Lawful as LawfulFilter}
 use Rattle.filter.specs.Tables.{union_table, intersection_table, complement_table, always_match_table}
-use Rattle.filter.specs.declared.UnionState.{UnionState}
-use Rattle.filter.specs.declared.IntersectionState.{IntersectionState}
-use Rattle.filter.specs.declared.ComplementState.{ComplementState}
 use Rattle.law.specs.Entries.{Entry, Lists}
-use Rattle.law.specs.Values.{most, most_keys, Search, View, Answer, Handed, End, Refused, Part, Standing, NoPart, too_short}
+use Rattle.law.specs.Values.{most, most_keys, Search, View, Answer, Handed, End, Refused, Standing, NoPart, too_short}
 use Rattle.law.specs.Next.{all_looks, Walks, walk, next_of, key_of}
 use Rattle.law.specs.History.{Serves, History}
 

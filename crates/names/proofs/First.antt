@@ -1,13 +1,13 @@
 -- The first refusal, one name at a time. Assumes nothing.
-use Rattle.std.proofs.Common.{◌≡◌, ℕ, ◌+◌, ◌-◌, ◌<◌, ◌≤◌, Bool, true, false, cond, eqb, leb, List, [], ◌∷◌, length, get_or, drop, Some, None, Option, sym, refl, ap, ◌∙◌, arith}
+use Rattle.std.proofs.Common.{◌≡◌, ℕ, ◌+◌, ◌-◌, ◌<◌, ◌≤◌, Bool, true, false, cond, leb, List, ◌∷◌, length, get_or, drop, Some, None, Option, sym, refl, ap, ◌∙◌, arith}
 use Rattle.std.proofs.lemmas.List.{drop_all, drop_more}
-use Rattle.std.proofs.lemmas.Bool.{le-leb, ne_eqb, cond-true, cond-false, false≢true}
+use Rattle.std.proofs.lemmas.Bool.{le-leb, ne_eqb, cond-true, cond-false}
 use Rattle.byte_strings.specs.Order.{Bytes}
 use Rattle.names.specs.declared.name.Name.{Name}
 use Rattle.names.specs.declared.refusal.Refusal.{Refusal}
-use Rattle.names.specs.declared.refusal.Refusal.TheVariants.{CountOutOfRange, NameOutOfRange, NotRising}
+use Rattle.names.specs.declared.refusal.Refusal.TheVariants.{NameOutOfRange, NotRising}
 use Rattle.names.specs.Names.{cut, blank, before, is_inside}
-use Rattle.names.specs.Refusals.{is_in_range, is_above, refusal_at, or_else, refusal_from, refusal_of, is_counted}
+use Rattle.names.specs.Refusals.{is_above, refusal_at, or_else, refusal_from, refusal_of}
 
 module _ (text : Bytes) (rows : List Name) where
   -- the refusal of name number i

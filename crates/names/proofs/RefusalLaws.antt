@@ -1,13 +1,13 @@
 -- A list is accepted exactly where it is rising, and refused exactly as each refusal says. Assumes nothing.
-use Rattle.std.proofs.Common.{◌≡◌, ℕ, zero, suc, ◌+◌, ◌-◌, ◌<◌, ◌≤◌, Bool, true, false, cond, eqb, leb, ◌⊎◌, ◌↔◌, List, [], ◌∷◌, length, get_or, Some, None, Option, Ordering, Less, Equal, Greater, sym, refl, ap, ◌∙◌, subst, inl, inr, arith}
-use Rattle.std.proofs.lemmas.Bool.{leb-true, leb-false, le-leb, lt-leb, eqb-true, eqb-false, cond-true, cond-false, false≢true, cases_lt}
+use Rattle.std.proofs.Common.{◌≡◌, ℕ, zero, suc, ◌+◌, ◌-◌, ◌<◌, ◌≤◌, Bool, true, false, cond, eqb, leb, ◌⊎◌, List, length, Some, None, Option, Ordering, Less, Equal, Greater, sym, refl, ap, ◌∙◌, subst, inl, inr, arith}
+use Rattle.std.proofs.lemmas.Bool.{leb-true, le-leb, lt-leb, eqb-true, eqb-false, cond-true, cond-false, false≢true, cases_lt}
 use Rattle.std.specs.Ordering.{is_lt}
 use Rattle.byte_strings.specs.Order.{Bytes, order, ◌≺◌}
 use Rattle.names.specs.declared.name.Name.{Name}
 use Rattle.names.specs.declared.refusal.Refusal.{Refusal}
 use Rattle.names.specs.declared.refusal.Refusal.TheVariants.{CountOutOfRange, NameOutOfRange, NotRising}
-use Rattle.names.specs.Names.{cut, blank, before, is_inside}
-use Rattle.names.specs.Refusals.{is_in_range, is_above, refusal_at, refusal_of, is_counted}
+use Rattle.names.specs.Names.{before, is_inside}
+use Rattle.names.specs.Refusals.{is_in_range, is_above, refusal_of}
 use Rattle.names.specs.Rising.{row, name, InRange, Good, Rising, Reached, Refused, count_out_of_range, name_out_of_range, not_rising}
 use Rattle.names.proofs.First.{own, first, first_past, first_here, first_next, counted_first}
 

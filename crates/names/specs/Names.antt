@@ -1,5 +1,5 @@
 -- The names of a list, cut out of its text. Assumes nothing.
-use Rattle.std.specs.Prelude.{◌≡◌, ℕ, ◌+◌, ◌-◌, Bool, true, false, cond, List, [], ◌∷◌, map, length, take, drop, Some, None, Option, ◌==◌, nat_le, slice_index_or}
+use Rattle.std.specs.Prelude.{◌≡◌, ℕ, ◌+◌, ◌-◌, Bool, true, cond, List, [], ◌∷◌, map, length, take, drop, Some, None, Option, ◌==◌, nat_le, slice_index_or}
 use Rattle.byte_strings.specs.Order.{Bytes}
 use Rattle.names.specs.declared.name.Name.{Name}
 

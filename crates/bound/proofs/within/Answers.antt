@@ -1,5 +1,4 @@
 use Rattle.std.proofs.Common.{sym, ◌∙◌}
-use Rattle.bound.specs.Value.{value_of}
 use Rattle.bound.proofs.Words.{within_said, within_test}
 use Rattle.bound.proofs.within.Goals as goal
 

@@ -1,4 +1,4 @@
-use Rattle.std.proofs.Common.{◌&&◌, sym, ap, ◌∙◌}
+use Rattle.std.proofs.Common.{◌&&◌, ap, ◌∙◌}
 use Rattle.byte_strings.specs.Order.{begins}
 use Rattle.account.specs.Chosen.{is_subsequence}
 use Rattle.account.proofs.ChosenNames.{passes_tests}

@@ -1,5 +1,4 @@
-use Rattle.std.proofs.Common.{◌≡◌, ◌<◌, length, vec_items, sym, ap, ◌∙◌, arith}
-use Rattle.std.specs.Option.{option_map}
+use Rattle.std.proofs.Common.{◌<◌, length, vec_items, arith}
 use Rattle.input.specs.Reading.{asked_of}
 use Rattle.account.proofs.Reports.{row_name, name_answer, no_answer}
 use Rattle.account.proofs.listing.chosen_name.Goals as goal

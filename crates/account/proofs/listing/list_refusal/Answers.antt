@@ -1,4 +1,4 @@
-use Rattle.std.proofs.Common.{◌≡◌, vec_items, sym, ap, ◌∙◌, arith}
+use Rattle.std.proofs.Common.{vec_items, ap, ◌∙◌, arith}
 use Rattle.std.specs.Option.{option_map}
 use Rattle.names.specs.Numbers.{number_of}
 use Rattle.names.specs.Refusals.{refusal_of}

@@ -1,4 +1,4 @@
-use Rattle.std.proofs.Common.{◌≡◌, ◌+◌, ◌++◌, vec_items, vec_len, sym, ap, ◌∙◌, arith}
+use Rattle.std.proofs.Common.{◌+◌, ◌++◌, vec_items, ap, ◌∙◌, arith}
 use Rattle.account.specs.Account.{key_line, refused_line}
 use Rattle.std.proofs.lemmas.Result.{IfOk-weaker}
 use Rattle.input.specs.Reading.{asked_of}

@@ -1,4 +1,4 @@
-use Rattle.std.proofs.Common.{sym, ap, ◌∙◌}
+use Rattle.std.proofs.Common.{ap, ◌∙◌}
 use Rattle.input.specs.Reading.{asked_of}
 use Rattle.account.specs.Refusals.{or_else, bound_refusal}
 use Rattle.account.proofs.listing.refusal_of.Goals as goal

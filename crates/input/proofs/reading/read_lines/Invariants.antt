@@ -1,5 +1,4 @@
 use Rattle.std.proofs.Common.{◌-◌, length, vec_items}
-use Rattle.input.specs.declared.reading.Input.{Input}
 use Rattle.names.specs.Names.{AllInside}
 use Rattle.input.specs.Reading.{asked_of}
 use Rattle.input.proofs.Lining.{Ahead}

@@ -1,5 +1,4 @@
-use Rattle.std.proofs.Common.{◌≡◌, sym, refl, ap, ◌∙◌, subst, arith}
-use Rattle.input.specs.Asked.{act_line, act_by}
+use Rattle.std.proofs.Common.{sym, refl, subst, arith}
 use Rattle.input.specs.Reading.{asked_of}
 use Rattle.input.specs.Steps.{Acts}
 use Rattle.input.proofs.Lining.{line_of_kind, line_of_none}

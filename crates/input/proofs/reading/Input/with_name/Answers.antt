@@ -1,7 +1,6 @@
-use Rattle.std.proofs.Common.{◌≡◌, [], ◌∷◌, ◌++◌, Some, vec_items, sym, ap, ◌∙◌, subst}
+use Rattle.std.proofs.Common.{[], ◌∷◌, Some, vec_items, sym, ap, ◌∙◌, subst}
 use Rattle.std.proofs.lemmas.List.{map-append}
 use Rattle.names.specs.Names.{cut, names_of, AllInside}
-use Rattle.bound.specs.Value.{value_of}
 use Rattle.input.proofs.Lining.{with_names, inside_push}
 use Rattle.input.specs.Reading.{asked_of}
 use Rattle.input.proofs.reading.Input.with_name.Goals as goal
