@@ -40,7 +40,7 @@ module _ (file : File) where
     pub lower : (p : ℕ) → p < low → byte file n p < b
     pub higher : (p : ℕ) → high ≤ p → p < len_in n → b < byte file n p
 
--- the table t answers what the bytes bs say: each field is the little_endian number at its place, and lies within the file
+-- the table t answers what the bytes bs say: each field is the little-endian number at its place, and lies within the file
 pub record AnswersBytes (bs : List ℕ) (t : Table) : Type 0 where
   -- bytes 0 to 3 hold the number of nodes, and the root is the last node
   pub nodes : (n : ℕ) → (t.is_node n ≡ true) ↔ (n < little_endian bs 4 0)
