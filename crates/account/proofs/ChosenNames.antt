@@ -1,6 +1,6 @@
 -- The test of a chosen name says what its words say. Assumes nothing.
 use Rattle.std.proofs.Common.{◌≡◌, ℕ, Bool, true, false, cond, ◌&&◌, eqb, [], ◌∷◌, ◌++◌, Decides, sym, refl, ap, ◌∙◌, subst}
-use Rattle.std.proofs.lemmas.Bool.{eqb-true, eqb-false, false≢true}
+use Rattle.std.proofs.lemmas.Bool.{and_from, and_parts, eqb-true, eqb-false, false≢true}
 use Rattle.byte_strings.specs.Order.{Bytes, begins}
 use Rattle.byte_strings.proofs.OrderLaws.{begins_law}
 use Rattle.bound.proofs.Words.{within_said, within_test}
@@ -15,7 +15,7 @@ none_of (y ∷ k) = skipped (none_of k)
 subsequence_said : (s k : Bytes) → is_subsequence s k ≡ true → SubsequenceOf s k
 unfolding is_subsequence
 subsequence_said [] k h = none_of k
-subsequence_said (x ∷ s) [] h = absurd (false≢true h)
+subsequence_said (x ∷ s) [] h = cc
 subsequence_said (x ∷ s) (y ∷ k) h = go (eqb x y) refl h (subsequence_said s k) (subsequence_said (x ∷ s) k)
   where
     go : (u : Bool) → eqb x y ≡ u → cond u (is_subsequence s k) (is_subsequence (x ∷ s) k) ≡ true
@@ -36,8 +36,8 @@ after_other n (taken p) = absurd (n refl)
 after_other n (skipped p) = p
 
 not_of_none : {x : ℕ} {s k : Bytes} → SubsequenceOf (x ∷ s) k → k ≡ [] → ⊥
-not_of_none (taken p) e = false≢true (let z : false ≡ true = cc in z)
-not_of_none (skipped p) e = false≢true (let z : false ≡ true = cc in z)
+not_of_none (taken p) e = cc
+not_of_none (skipped p) e = cc
 
 subsequence_test : (s k : Bytes) → SubsequenceOf s k → is_subsequence s k ≡ true
 unfolding is_subsequence
@@ -50,19 +50,12 @@ subsequence_test (x ∷ s) (y ∷ k) p = go (eqb x y) refl (subsequence_test s k
     go true e same other = same (after_same p)
     go false e same other = other (after_other (eqb-false x y e) p)
 
-and_said : (u v : Bool) → (u && v) ≡ true → (u ≡ true) × (v ≡ true)
-and_said true v h = (refl, h)
-and_said false v h = absurd (false≢true h)
-
-and_test : (u v : Bool) → u ≡ true → v ≡ true → (u && v) ≡ true
-and_test u v h k = ap (λ w. w && v) h ∙ k
-
 -- what the filter decides is the two tests
 pub passes_tests : (p s k : Bytes) (r : Bool) → Decides r (StartingWith (EqualTo p) k × SubsequenceOf s k) → r ≡ (begins p k && is_subsequence s k)
 passes_tests p s k true d =
     let both = d.0 refl in
     let front = both.0 in
-    sym (and_test _ _
+    sym (and_from _ _
     ((begins_law.begins_is_front p k).1 (front.1, ap (λ l. l ++ front.1) (sym front.3) ∙ front.2))
     (subsequence_test s k both.1))
 passes_tests p s k false d = go (begins p k && is_subsequence s k) refl
@@ -70,14 +63,14 @@ passes_tests p s k false d = go (begins p k && is_subsequence s k) refl
     go : (v : Bool) → (begins p k && is_subsequence s k) ≡ v → false ≡ v
     go false e = refl
     go true e =
-        let q = and_said _ _ e in
+        let q = and_parts _ _ e in
         let front = (begins_law.begins_is_front p k).0 q.0 in
         absurd (false≢true (d.1 ((p, front.0, front.1, refl), subsequence_said s k q.1)))
 
 pub chosen_said : (a : Asked) (k : Bytes) → is_chosen a k ≡ true → Chosen a k
 chosen_said a k h =
-    let q = and_said _ _ h in
-    let r = and_said _ _ q.1 in
+    let q = and_parts _ _ h in
+    let r = and_parts _ _ q.1 in
     record {
       within = within_said a.lower a.upper k q.0;
       prefixed = (begins_law.begins_is_front a.prefix k).0 r.0;
@@ -86,5 +79,5 @@ chosen_said a k h =
 
 pub chosen_test : (a : Asked) (k : Bytes) → Chosen a k → is_chosen a k ≡ true
 chosen_test a k c =
-    and_test _ _ (within_test a.lower a.upper k c.within)
-    (and_test _ _ ((begins_law.begins_is_front a.prefix k).1 c.prefixed) (subsequence_test a.subsequence k c.holding))
+    and_from _ _ (within_test a.lower a.upper k c.within)
+    (and_from _ _ ((begins_law.begins_is_front a.prefix k).1 c.prefixed) (subsequence_test a.subsequence k c.holding))

@@ -1,4 +1,5 @@
 mod ChosenNames
 mod ListRefusals
+mod Opening
 mod Reports
 mod AccountLaws

@@ -1,18 +1,20 @@
 -- The report of the chosen names, one name at a time. Assumes nothing.
-use Rattle.std.proofs.Common.{◌≡◌, ℕ, zero, suc, ◌+◌, ◌^◌, ◌<◌, ◌≤◌, Bool, true, false, cond, ltb, List, [], ◌∷◌, ◌++◌, length, get_or, drop, Some, None, Ok, Err, vec_items, vec_len, Option, sym, refl, ap, ◌∙◌, subst, inl, inr, append_assoc, arith}
+use Rattle.std.proofs.Common.{◌≡◌, ℕ, zero, suc, ◌+◌, ◌<◌, ◌≤◌, Bool, true, false, cond, ltb, List, [], ◌∷◌, ◌++◌, length, get_or, drop, Some, None, vec_items, Option, sym, refl, ap, ◌∙◌, subst, append_assoc, arith}
 use Rattle.std.proofs.lemmas.List.{drop_all, drop_more, get_or-map, length-map}
-use Rattle.std.proofs.lemmas.Bool.{lt-ltb, le-ltb, ltb-false, cases_lt, cond-true, cond-false}
+use Rattle.std.proofs.lemmas.Bool.{lt-ltb, le-ltb, cond-true, cond-false}
 use Rattle.byte_strings.specs.Order.{Bytes}
 use Rattle.names.specs.declared.name.Name.{Name}
 use Rattle.names.specs.Names.{cut, names_of, is_inside, bytes_of, AllInside}
 use Rattle.input.specs.Number.{most}
-use Rattle.input.specs.Asked.{Asked, nothing_asked, act_lines}
-use Rattle.input.specs.declared.reading.Input.{Input}
-use Rattle.input.specs.Reading.{asked_of, read_of, unless_bad}
-use Rattle.input.specs.Lines.{lines}
-use Rattle.input.specs.declared.refusal.Refusal.TheVariants.{InputTooLong, TooManyNames}
-use Rattle.account.specs.Chosen.{is_chosen, chosen_at}
+use Rattle.input.specs.Asked.{Asked}
+use Rattle.input.specs.declared.input.Input.{Input}
+use Rattle.input.specs.Reading.{asked_of}
+use Rattle.account.specs.Chosen.{is_chosen, chosen_key}
 use Rattle.account.specs.Account.{Entry, entry, entries_from, entries_of, key_line, end_line, refused_line, report}
+
+-- name number i, where it is chosen
+abbrev pub chosen_at : Asked → ℕ → Option Bytes
+chosen_at a i = cond (is_chosen a (get_or a.names i [])) (Some (get_or a.names i [])) None
 
 module _ (a : Asked) where
   -- an answer for name number i says whether it is chosen
@@ -20,7 +22,7 @@ module _ (a : Asked) where
   not_chosen i e = go (is_chosen a (get_or a.names i [])) refl e
     where
       go : (u : Bool) → is_chosen a (get_or a.names i []) ≡ u → None ≡ cond u (Some (get_or a.names i [])) None → is_chosen a (get_or a.names i []) ≡ false
-      go true f e = absurd (let z : ◌≡◌ {A = ℕ} 0 1 = cc in omega arith)
+      go true f e = cc
       go false f e = f
 
   pub was_chosen : (i : ℕ) (k : Bytes) → Some k ≡ chosen_at a i → (is_chosen a (get_or a.names i []) ≡ true) × (k ≡ get_or a.names i [])
@@ -29,7 +31,7 @@ module _ (a : Asked) where
       go : (u : Bool) → is_chosen a (get_or a.names i []) ≡ u → Some k ≡ cond u (Some (get_or a.names i [])) None
           → (is_chosen a (get_or a.names i []) ≡ true) × (k ≡ get_or a.names i [])
       go true f e = (f, let s : k ≡ get_or a.names i [] = cc in s)
-      go false f e = absurd (let z : ◌≡◌ {A = ℕ} 0 1 = cc in omega arith)
+      go false f e = cc
 
 module _ (a : Asked) (start : Bytes) where
   -- what is printed, and what is still to be printed from name number i on
@@ -61,10 +63,8 @@ module _ (a : Asked) (start : Bytes) where
         ∙ ap (λ l. out ++ l) (sym (report_cons n (entry (a.shift + i) (get_or a.names i [])) _ ∙ cond-false _ _ _ (le-ltb most (a.shift + i) k)))
         ∙ due
 
-    pub too_large : (after : Bytes) → most < a.shift + i → after ≡ out ++ refused_line 16 → after ≡ start ++ report 0 (entries_of a)
-    too_large after k p =
-        p ∙ ap (λ l. out ++ l) (sym (report_cons n (entry (a.shift + i) (get_or a.names i [])) _ ∙ cond-true _ _ _ (lt-ltb most (a.shift + i) k)))
-        ∙ due
+    pub too_large : most < a.shift + i → out ++ refused_line 16 ≡ start ++ report 0 (entries_of a)
+    too_large k = ap (λ l. out ++ l) (sym (report_cons n (entry (a.shift + i) (get_or a.names i [])) _ ∙ cond-true _ _ _ (lt-ltb most (a.shift + i) k))) ∙ due
 
   pub moved : (out after : Bytes) (n m i : ℕ) → after ≡ out → m ≡ n → Ahead out n i → Ahead after m i
   moved out after n m i p q inv = ap (λ l. l ++ report m (entries_from a i (drop i a.names))) p ∙ ap (λ k. out ++ report k (entries_from a i (drop i a.names))) q ∙ inv
@@ -79,45 +79,15 @@ inside_at text (r ∷ rows) zero d h k = h.0
 inside_at text (r ∷ rows) (suc i) d h k = inside_at text rows i d h.1 (omega arith)
 
 -- the bytes of a row are the name of its number
-pub row_name : (text : Bytes) (rows : List Name) (i : ℕ) (r : Name) → AllInside text rows → i < length rows → r ≡ get_or rows i r
-    → bytes_of text r ≡ Some (get_or (names_of text rows) i [])
-row_name text rows i r h k e =
-    cond-true _ _ _ (ap (is_inside text) e ∙ inside_at text rows i r h k)
-    ∙ ap (λ (x : Bytes). Some x) (ap (cut text) e ∙ sym (get_or-map (cut text) rows i r [] k))
+row_name : (text : Bytes) (rows : List Name) (i : ℕ) (d : Name) → AllInside text rows → i < length rows
+    → bytes_of text (get_or rows i d) ≡ Some (get_or (names_of text rows) i [])
+row_name text rows i d h k = cond-true _ _ _ (inside_at text rows i d h k) ∙ ap (λ (x : Bytes). Some x) (sym (get_or-map (cut text) rows i d [] k))
 
--- the answer for a name whose bytes were read
-pub name_answer : (a : Asked) (i : ℕ) (k : Bytes) (o : Option Bytes) (v : Bool) → Some k ≡ o → o ≡ Some (get_or a.names i []) → v ≡ is_chosen a k → cond v (Some k) None ≡ chosen_at a i
-name_answer a i k o v p q r =
-    let s : k ≡ get_or a.names i [] = cc in
-    ap (λ w. cond w (Some k) None) r ∙ ap (λ x. cond (is_chosen a x) (Some x) None) s
+pub row_chosen : (input : Input) (rows : List Name) (i : ℕ) (d : Name) → rows ≡ vec_items input.names → i < length rows
+    → chosen_key (asked_of input) (bytes_of input.text.now (get_or rows i d)) ≡ chosen_at (asked_of input) i
+row_chosen input rows i d e k =
+    ap (λ rs. chosen_key (asked_of input) (bytes_of input.text.now (get_or rs i d))) e
+    ∙ ap (chosen_key (asked_of input)) (row_name input.text.now (vec_items input.names) i d input.inside (subst (λ rs. i < length rs) e k))
 
-pub no_answer : (a : Asked) (i : ℕ) (o : Option Bytes) → None ≡ o → o ≡ Some (get_or a.names i []) → None ≡ chosen_at a i
-no_answer a i o p q = absurd (let z : ◌≡◌ {A = ℕ} 0 1 = cc in omega arith)
-
-pub names_long : (text : Bytes) (i : Input) → length (asked_of text i).names ≡ vec_len i.names
-names_long text i = length-map (vec_items i.names) (cut text) ∙ sym i.names.ok.0
-
--- an input that was read has at most 1,024 names
-pub names_few : (text : Bytes) (a : Asked) → read_of text ≡ Ok a → length a.names ≤ 1024
-names_few text a e = go (ltb 65535 (length text)) (act_lines (Some nothing_asked) (lines text)) e
-  where
-    last : (b : Asked) (u : Bool) → ltb 1024 (length b.names) ≡ u → cond u (Err TooManyNames) (Ok b) ≡ Ok a → length a.names ≤ 1024
-    last b true f e = absurd (let z : ◌≡◌ {A = ℕ} 0 1 = cc in omega arith)
-    last b false f e =
-        let s : b ≡ a = cc in
-        let l = ltb-false 1024 (length b.names) f in
-        subst (λ (x : Asked). length x.names ≤ 1024) s l
-
-    go : (u : Bool) (o : Option Asked) → cond u (Err InputTooLong) (unless_bad o) ≡ Ok a → length a.names ≤ 1024
-    go true o e = absurd (let z : ◌≡◌ {A = ℕ} 0 1 = cc in omega arith)
-    go false None e = absurd (let z : ◌≡◌ {A = ℕ} 0 1 = cc in omega arith)
-    go false (Some b) e = last b (ltb 1024 (length b.names)) refl e
-
-pub past_most : (n : ℕ) → (n < 2 ^ 64 → ⊥) → most < n
-past_most n h = elim (cases_lt most n) [ inl l ↦ l | inr l ↦ absurd (h (omega arith)) ]
-
-pub within_most : (n : ℕ) → n < 2 ^ 64 → n ≤ most
-within_most n h = omega arith
-
-pub same_entry : (t u : ℕ) (k l : Bytes) → t ≡ u → k ≡ l → entry t k ≡ entry u l
-same_entry t u k l p q = ap (λ n. entry n k) p ∙ ap (entry u) q
+pub names_long : (i : Input) → length (asked_of i).names ≡ length (vec_items i.names)
+names_long i = length-map (vec_items i.names) (cut i.text.now)

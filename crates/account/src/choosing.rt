@@ -2,10 +2,9 @@
 ghost use Rattle.std.specs.Prelude.{◌≡◌, Decides};
 ghost use Rattle.filter.specs.Meanings.{StartingWith, EqualTo, SubsequenceOf};
 ghost use Rattle.input.specs.Reading.{asked_of};
-ghost use Rattle.byte_strings.specs.Order.{Bytes};
 ghost use Rattle.account.specs.Chosen.{is_chosen};
 
-use automaton::{Automaton, Combine, Str, Subsequence, accepts};
+use automaton::{Automaton, Str, Subsequence, accepts};
 use bound::within;
 use input::Input;
 
@@ -21,7 +20,7 @@ fn passes(prefix: &[u8], subsequence: &[u8], key: &[u8]) -> bool
 
 /// Whether a name is chosen: within the bounds, with the prefix and with the subsequence.
 pub(crate) fn is_chosen(input: &Input<'_>, key: &[u8]) -> bool
-    ensures { (text : Bytes) → result ≡ is_chosen (asked_of text input.now) key.now }
+    ensures { result ≡ is_chosen (asked_of input.now) key.now }
 {
     within(input.lower, input.upper, key) && passes(input.prefix, input.subsequence, key)
 }

@@ -4,8 +4,11 @@
 ghost use Rattle.std.specs.Prelude.{◌≡◌, IfOk};
 ghost use Rattle.account.specs.Account.{account_of};
 ghost use Rattle.account.specs.Law.{AccountLaw};
+ghost use Rattle.account.specs.Steps.{Prints};
 
-use input::{ReadError, read};
+use crate::listing::{open, push_report};
+use crate::printing::push_refused_line;
+use crate::refusal::AccountError;
 use std::alloc::{AllocError, Global};
 
 mod choosing;
@@ -13,27 +16,28 @@ mod listing;
 mod printing;
 mod refusal;
 
-/// The account by its definition.
-fn print_account(heap: Global, input: &[u8]) -> Result<Vec<u8>, AllocError>
-    ensures { IfOk result (λ out. out.items ≡ account_of input.now) }
+/// Adds the account of an input, but for the line of a refusal.
+fn push_account(out: &mut Vec<u8>, input: &[u8]) -> Result<(), AccountError>
+    ensures { Prints (account_of input.now) result out.old.items out.new.items }
 {
-    let mut out = Vec::new(heap);
-    match read(heap, input) {
-        Ok(asked) => listing::push_listing(heap, &mut out, input, &asked)?,
-        Err(ReadError::Refused(refusal)) => printing::push_refused_line(
-            heap,
-            &mut out,
-            refusal.number(),
-        )?,
-        Err(ReadError::OutOfMemory) => return Err(AllocError),
-    }
-    Ok(out)
+    let asked = open(*out.allocator(), input)?;
+    push_report(out, &asked)
 }
 
 /// The account of an input: the bytes that a listing prints, or want of memory.
+#[tactic(auto, using(crate::proofs::AccountLaws::account_law))]
 pub fn account(heap: Global, input: &[u8]) -> Result<Vec<u8>, AllocError>
     ensures answer { IfOk result (λ out. out.items ≡ account_of input.now) }
     ensures law { AccountLaw }
 {
-    print_account(heap, input)
+    let mut out = Vec::new(heap);
+    // no `?`: one outcome is the answer, one adds its line, and one is the error
+    match push_account(&mut out, input) {
+        Ok(()) => Ok(out),
+        Err(AccountError::Refused(refusal)) => {
+            push_refused_line(&mut out, refusal).map_err(|_| AllocError)?;
+            Ok(out)
+        }
+        Err(AccountError::OutOfMemory) => Err(AllocError),
+    }
 }

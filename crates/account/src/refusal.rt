@@ -1,9 +1,15 @@
-//! Why an account ends with a refusal.
+//! Why an account ends early.
 ghost use Rattle.std.specs.Prelude.{◌≡◌};
+ghost use Rattle.account.specs.declared.refusal.Refusal.TheVariants.{List};
+ghost use Rattle.account.specs.declared.refusal.AccountError.TheVariants.{Refused, OutOfMemory};
 ghost use Rattle.account.specs.Numbers.{number_of};
+ghost use Rattle.account.specs.Errors.{error_of};
+
+use input::ReadError;
+use std::io;
 
 /// What keeps an account from being whole.
-#[derive(Clone, Copy)]
+#[derive(Clone, Copy, Debug, PartialEq, Eq)]
 pub(crate) enum Refusal {
     /// The input cannot be read.
     Input(input::Refusal),
@@ -20,11 +26,56 @@ impl Refusal {
     pub(crate) fn number(self) -> u8
         ensures { result ≡ number_of self }
     {
+        // no cast: two of the cases carry a refusal with a number of its own
         match self {
             Refusal::Input(refusal) => refusal.number(),
             Refusal::List(refusal) => refusal.number(),
             Refusal::BoundTooLong => 14,
             Refusal::SumTooLarge => 16,
         }
+    }
+}
+
+/// What ends an account before its last key: a refusal, or want of memory.
+// No parameter of `ReadError` stands for it, since each conversion has to name a type of this crate.
+#[derive(Clone, Copy, Debug, PartialEq, Eq)]
+pub(crate) enum AccountError {
+    Refused(Refusal),
+    OutOfMemory,
+}
+
+impl From<Refusal> for AccountError {
+    ghost from_gives = { λ refusal e. e ≡ Refused refusal };
+
+    fn from(refusal: Refusal) -> AccountError {
+        AccountError::Refused(refusal)
+    }
+}
+
+impl From<names::Refusal> for AccountError {
+    ghost from_gives = { λ refusal e. e ≡ Refused (List refusal) };
+
+    fn from(refusal: names::Refusal) -> AccountError {
+        AccountError::Refused(Refusal::List(refusal))
+    }
+}
+
+impl From<ReadError> for AccountError {
+    ghost from_gives = { λ error e. e ≡ error_of error };
+
+    fn from(error: ReadError) -> AccountError {
+        match error {
+            ReadError::Refused(refusal) => AccountError::Refused(Refusal::Input(refusal)),
+            ReadError::OutOfMemory => AccountError::OutOfMemory,
+        }
+    }
+}
+
+/// A line is written to a `Vec`, where nothing fails but for memory.
+impl From<io::Error> for AccountError {
+    ghost from_gives = { λ _ e. e ≡ OutOfMemory };
+
+    fn from(_error: io::Error) -> AccountError {
+        AccountError::OutOfMemory
     }
 }

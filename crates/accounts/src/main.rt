@@ -5,25 +5,27 @@ ghost use Rattle.std.specs.Prelude.{◌<◌};
 
 use account::account;
 use std::alloc::{AllocError, Global};
+use std::fmt::Write;
 use std::io::{BufRead, BufReader};
 
 /// Accounts above this length are shown by their first and last line, their length and a checksum.
 const SHOWN_WHOLE: usize = 2000;
 
-/// The value of a hex digit, and 0 of any other byte.
+/// The hex digits by their values.
+const DIGITS: &[u8; 16] = b"0123456789abcdef";
+
+/// The value of a hex digit in small letters, and 0 of any other byte: no `to_digit`, which takes capital letters too.
 fn nibble(digit: u8) -> u8
     ensures { result < 16 }
 {
-    match digit {
-        b'0'..=b'9' => digit - b'0',
-        b'a'..=b'f' => digit - b'a' + 10,
-        _ => 0,
-    }
+    DIGITS.iter().position(|d| *d == digit).unwrap_or(0) as u8
 }
 
+// by hand: the library has no hex of a slice
 fn push_hex(out: &mut Vec<u8>, hex: &[u8]) -> Result<(), AllocError> {
-    for i in 0..hex.len() / 2 {
-        out.push(nibble(hex[2 * i]) * 16 + nibble(hex[2 * i + 1]))?;
+    let (pairs, _) = hex.as_chunks::<2>();
+    for [high, low] in pairs {
+        out.push(nibble(*high) * 16 + nibble(*low))?;
     }
     Ok(())
 }
@@ -32,26 +34,22 @@ fn push_hex(out: &mut Vec<u8>, hex: &[u8]) -> Result<(), AllocError> {
 fn unpack(heap: Global, line: &str) -> anyhow::Result<Vec<u8>> {
     let mut out = Vec::new(heap);
     for item in line.split(' ') {
-        match item.split_once('*') {
-            Some((hex, times)) => {
-                for _ in 0..times.parse::<usize>()? {
-                    push_hex(&mut out, hex.as_bytes())?;
-                }
-            }
-            None => push_hex(&mut out, item.as_bytes())?,
+        let (hex, times) = item.split_once('*').unwrap_or((item, "1"));
+        for _ in 0..times.parse::<usize>()? {
+            push_hex(&mut out, hex.as_bytes())?;
         }
     }
     Ok(out)
 }
 
 /// The bytes as text, those that do not print by their hex.
+// no `escape_ascii`: that one writes line feeds and quotes otherwise
 fn escape(heap: Global, bytes: &[u8]) -> Result<String, AllocError> {
     let mut text = String::new(heap);
     for byte in bytes {
-        if (*byte >= b' ' && *byte < 0x7f && *byte != b'\\') || *byte == b'\n' {
-            text.push(char::from(*byte))?;
-        } else {
-            text.push_str(format!(in heap; "\\x{byte:02x}")?.as_str())?;
+        match byte {
+            b'\n' | b' '..=b'[' | b']'..=b'~' => text.push(char::from(*byte))?,
+            _ => write!(text, "\\x{byte:02x}")?,
         }
     }
     Ok(text)
@@ -85,6 +83,7 @@ fn show(rt: HostRuntime, bytes: &[u8]) -> anyhow::Result<()> {
 }
 
 fn main(rt: HostRuntime) -> anyhow::Result<()> {
+    // counted beside the lines: the number is printed after the last one too
     let mut number = 0u64;
     for line in BufReader::new(rt.alloc(), rt.stdin())?.lines(rt.alloc()) {
         let line = line?;

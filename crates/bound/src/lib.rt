@@ -8,7 +8,8 @@ ghost use Rattle.bound.specs.Within.{is_reached, is_exceeded, is_within, Within}
 use byte_strings::compare;
 
 /// The lower or the upper end of the keys that are wanted.
-#[derive(Clone, Copy)]
+// No `std::ops::Bound`: a type of the library takes no methods of ours, and a trait for them is no plainer.
+#[derive(Clone, Copy, Debug, PartialEq, Eq)]
 pub enum Bound<'b> {
     /// Every key.
     Unbounded,
@@ -24,9 +25,9 @@ impl<'b> Bound<'b> {
         ensures { result.now ≡ bytes_of (value_of self.entry) }
     {
         match self {
+            // no `Option`: an absent bound asks for as little room as an empty one
             Bound::Unbounded => b"",
-            Bound::Included(bytes) => bytes,
-            Bound::Excluded(bytes) => bytes,
+            Bound::Included(bytes) | Bound::Excluded(bytes) => bytes,
         }
     }
 
@@ -53,17 +54,11 @@ impl<'b> Bound<'b> {
     }
 }
 
-/// Both tests, by the definition.
-fn tests_within(lower: Bound<'_>, upper: Bound<'_>, key: &[u8]) -> bool
-    ensures { result ≡ is_within (value_of lower.entry) (value_of upper.entry) key.now }
-{
-    lower.reached_by(key) && !upper.exceeded_by(key)
-}
-
 /// Whether the key lies within the bounds.
+#[tactic(auto, using(crate::proofs::Words::within_since, crate::proofs::Words::reached_within, crate::proofs::Words::exceeded_within))]
 pub fn within(lower: Bound<'_>, upper: Bound<'_>, key: &[u8]) -> bool
     ensures answer { result ≡ is_within (value_of lower.entry) (value_of upper.entry) key.now }
     ensures meaning { (result ≡ true) ↔ Within (value_of lower.entry) (value_of upper.entry) key.now }
 {
-    tests_within(lower, upper, key)
+    lower.reached_by(key) && !upper.exceeded_by(key)
 }

@@ -1,7 +1,13 @@
 -- Byte strings that begin with one string, and their order. Assumes nothing.
-use Rattle.std.proofs.Common.{◌≡◌, ℕ, zero, suc, ◌<◌, ◌≤◌, Bool, true, false, cond, eqb, ◌⊎◌, [], ◌∷◌, ◌++◌, length, get_or, take, sym, refl, ◌∙◌, inl, inr, arith}
+use Rattle.std.proofs.Common.{◌≡◌, ℕ, ◌<◌, ◌≤◌, Bool, true, false, cond, eqb, ◌⊎◌, [], ◌∷◌, ◌++◌, length, get_or, take, drop, sym, refl, ap, ◌∙◌, inl, inr, arith, append_assoc, append-nil, take-append-drop}
 use Rattle.std.proofs.lemmas.Bool.{eqb-true, eq-eqb, cond-true, false≢true}
+use Rattle.std.proofs.Math.Seq.{take-append_seam}
+use Rattle.std.proofs.lemmas.Bool.Decides.{Decides-eqb}
+use Rattle.std.proofs.lemmas.List.{take_all}
+use Rattle.std.proofs.lemmas.List.Prefix.{front_fits}
+use Rattle.std.proofs.lemmas.Slice.Eq.{starts_is}
 use Rattle.byte_strings.specs.Order.{Bytes, ◌≺◌, begins}
+use Rattle.byte_strings.proofs.Library.{front_is_begins}
 use Rattle.byte_strings.proofs.Orders.{not_less, equal_not, less_cons}
 
 pub begun_cons : (x y : ℕ) (w a : Bytes) → begins (x ∷ w) (y ∷ a) ≡ true → (x ≡ y) × (begins w a ≡ true)
@@ -14,21 +20,22 @@ begun_cons x y w a h = go (eqb x y) refl h
 pub cons_begun : (x y : ℕ) (w a : Bytes) → x ≡ y → begins w a ≡ true → begins (x ∷ w) (y ∷ a) ≡ true
 cons_begun x y w a e h = cond-true _ _ _ (eq-eqb x y e) ∙ h
 
+-- a string that begins with another is that one and a rest
+pub begun_whole : (w a : Bytes) → begins w a ≡ true → a ≡ w ++ drop (length w) a
+begun_whole w a h = (starts_is Decides-eqb a w (begins w a) (sym (front_is_begins w a))).0 h
+
+pub whole_begun : (w a rest : Bytes) → a ≡ w ++ rest → begins w a ≡ true
+whole_begun w a rest e = (starts_is Decides-eqb a w (begins w a) (sym (front_is_begins w a))).1 rest e
+
 -- every string begins with itself, and with its own first bytes
 pub begins_take : (d : ℕ) (a : Bytes) → begins (take d a) a ≡ true
-begins_take zero a = refl
-begins_take (suc d) [] = refl
-begins_take (suc d) (x ∷ a) = cons_begun x x (take d a) a refl (begins_take d a)
+begins_take d a = whole_begun (take d a) a (drop d a) (sym (take-append-drop d a))
 
 pub begins_length : (w a : Bytes) → begins w a ≡ true → length w ≤ length a
-begins_length [] a h = omega arith
-begins_length (x ∷ w) [] h = absurd (false≢true h)
-begins_length (x ∷ w) (y ∷ a) h = let k = begins_length w a (begun_cons x y w a h).1 in omega arith
+begins_length w a h = front_fits a w (drop (length w) a) (begun_whole w a h)
 
 pub take_begun : (w a : Bytes) → begins w a ≡ true → take (length w) a ≡ w
-take_begun [] a h = refl
-take_begun (x ∷ w) [] h = absurd (false≢true h)
-take_begun (x ∷ w) (y ∷ a) h = let p = begun_cons x y w a h in let e = p.0 in let k = take_begun w a p.1 in cc
+take_begun w a h = ap (take (length w)) (begun_whole w a h) ∙ take-append_seam w (drop (length w) a)
 
 -- one byte more
 pub begins_push : (w a : Bytes) (b : ℕ) → begins w a ≡ true → length w < length a → get_or a (length w) 0 ≡ b → begins (w ++ (b ∷ [])) a ≡ true
@@ -110,26 +117,13 @@ not_below (x ∷ a) (y ∷ b) p s = go (begun_cons x y a b p) (less_cons y x b a
     go p (inr s) ih = ih p.1 s.1
 
 pub begins_self : (a : Bytes) → begins a a ≡ true
-begins_self [] = refl
-begins_self (x ∷ a) = cons_begun x x a a refl (begins_self a)
+begins_self a = whole_begun a a [] (sym (append-nil a))
 
 pub same_length : (w a : Bytes) → begins w a ≡ true → length w ≡ length a → w ≡ a
-same_length [] [] h e = refl
-same_length [] (y ∷ a) h e = absurd (omega arith)
-same_length (x ∷ w) [] h e = absurd (false≢true h)
-same_length (x ∷ w) (y ∷ a) h e = let p = begun_cons x y w a h in let f = p.0 in let g = same_length w a p.1 (omega arith) in cc
-
-pub not_long : (w a : Bytes) → length a < length w → begins w a ≡ false
-not_long w a h = go (begins w a) refl
-  where
-    go : (v : Bool) → begins w a ≡ v → begins w a ≡ false
-    go true e = absurd (let k = begins_length w a e in omega arith)
-    go false e = e
+same_length w a h e = sym (take_begun w a h) ∙ take_all (length w) a (omega arith)
 
 pub begins_front : (w k a : Bytes) → begins (w ++ k) a ≡ true → begins w a ≡ true
-begins_front [] k a h = refl
-begins_front (x ∷ w) k [] h = absurd (false≢true h)
-begins_front (x ∷ w) k (y ∷ a) h = let p = begun_cons x y (w ++ k) a h in cons_begun x y w a p.0 (begins_front w k a p.1)
+begins_front w k a h = whole_begun w a (k ++ drop (length (w ++ k)) a) (begun_whole (w ++ k) a h ∙ append_assoc w k (drop (length (w ++ k)) a))
 
 pub byte_after : (w a : Bytes) (b : ℕ) → begins (w ++ (b ∷ [])) a ≡ true → get_or a (length w) 0 ≡ b
 byte_after w a b h = (begins_pop w a b h).2

@@ -1,5 +1,5 @@
+pub mod Library
 pub mod Orders
 pub mod Fronts
-mod Turns
-mod WithByte
+pub mod WithByte
 pub mod OrderLaws

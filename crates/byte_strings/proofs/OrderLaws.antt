@@ -1,10 +1,10 @@
 -- The order of byte strings is the strict total order that its words say. Assumes nothing.
-use Rattle.std.proofs.Common.{◌≡◌, ℕ, ◌<◌, true, ◌⊎◌, [], ◌∷◌, ◌++◌, Greater, sym, refl, ap, ◌∙◌, subst, inl, inr, arith}
+use Rattle.std.proofs.Common.{◌≡◌, ℕ, ◌<◌, ◌⊎◌, [], ◌∷◌, ◌++◌, length, drop, Greater, sym, refl, ap, ◌∙◌, subst, inl, inr}
 use Rattle.std.specs.Ordering.{ordering_reverse}
-use Rattle.byte_strings.specs.Order.{Bytes, order, ◌≺◌, begins}
+use Rattle.byte_strings.specs.Order.{Bytes, order, ◌≺◌}
 use Rattle.byte_strings.specs.Laws.{Precedes, by_byte, by_end, OrderLaw, BeginsLaw}
 use Rattle.byte_strings.proofs.Orders.{not_less, equal_not, less_cons, differ, irreflexive, transitive, order_self, order_front, order_turned, equal_same}
-use Rattle.byte_strings.proofs.Fronts.{cons_begun, begun_cons}
+use Rattle.byte_strings.proofs.Fronts.{begun_whole, whole_begun}
 
 precedes_cons : (x : ℕ) {a b : Bytes} → Precedes a b → Precedes (x ∷ a) (x ∷ b)
 precedes_cons x (by_byte front rest rest' h) = by_byte (x ∷ front) rest rest' h
@@ -40,20 +40,7 @@ order_law = record {
   less_is_precedes = λ a b. (less_precedes a b, precedes_less);
 }
 
-front_begins : (a rest : Bytes) → begins a (a ++ rest) ≡ true
-front_begins [] rest = refl
-front_begins (x ∷ a) rest = cons_begun x x a (a ++ rest) refl (front_begins a rest)
-
-begins_front : (a b : Bytes) → begins a b ≡ true → (rest : Bytes) × (a ++ rest ≡ b)
-begins_front [] b h = (b, refl)
-begins_front (x ∷ a) [] h = absurd (let z : ◌≡◌ {A = ℕ} 0 1 = cc in omega arith)
-begins_front (x ∷ a) (y ∷ b) h =
-    let p = begun_cons x y a b h in
-    let r = begins_front a b p.1 in
-    let e = p.0 in let t = r.1 in
-    (r.0, cc)
-
 pub begins_law : BeginsLaw
 begins_law = record {
-  begins_is_front = λ a b. (begins_front a b, λ p. subst (λ c. begins a c ≡ true) p.1 (front_begins a p.0));
+  begins_is_front = λ a b. (λ h. (drop (length a) b, sym (begun_whole a b h)), λ r. whole_begun a b r.0 (sym r.1));
 }

@@ -1,3 +1,2 @@
 pub mod Order
 pub mod Laws
-pub mod Difference

@@ -3,92 +3,46 @@
 
 ghost use Rattle.std.specs.Prelude.{◌≡◌, [], ◌∷◌, ◌++◌};
 ghost use Rattle.byte_strings.specs.Order.{order, begins};
-ghost use Rattle.byte_strings.specs.Difference.{FirstDifference, byte_at, order_of_bytes};
 ghost use Rattle.byte_strings.specs.Laws.{OrderLaw, BeginsLaw};
 
 use std::cmp::Ordering;
 
-/// The first place at which the two differ, or one of them ends.
-fn first_difference(a: &[u8], b: &[u8]) -> usize
-    ensures { FirstDifference a.now b.now result }
-{
-    let mut at = 0;
-    while at < a.len() && at < b.len() && a[at] == b[at] {
-        at += 1;
-    }
-    at
-}
-
-/// The byte at a place, or none behind the last.
-fn byte_at(a: &[u8], at: usize) -> Option<u8>
-    ensures { result ≡ byte_at a.now at }
-{
-    if at < a.len() { Some(a[at]) } else { None }
-}
-
-/// How two strings stand to each other that differ by these bytes, or where the one without a byte ends.
-fn compare_bytes(x: Option<u8>, y: Option<u8>) -> Ordering
-    ensures { result ≡ order_of_bytes x y }
-{
-    match (x, y) {
-        (None, None) => Ordering::Equal,
-        (None, Some(_)) => Ordering::Less,
-        (Some(_), None) => Ordering::Greater,
-        (Some(x), Some(y)) => x.cmp(&y),
-    }
-}
-
 /// How `a` stands to `b`: by their first differing byte, a proper prefix first.
+#[tactic(auto, using(crate::proofs::Library::cmp_is_order))]
 pub fn compare(a: &[u8], b: &[u8]) -> Ordering
     ensures { result ≡ order a.now b.now }
 {
-    let at = first_difference(a, b);
-    compare_bytes(byte_at(a, at), byte_at(b, at))
-}
-
-/// How `byte` alone stands to `b`.
-fn compare_byte(byte: u8, b: &[u8]) -> Ordering
-    ensures { result ≡ order (byte ∷ []) b.now }
-{
-    if b.len() == 0 {
-        return Ordering::Greater;
-    }
-    if byte < b[0] {
-        return Ordering::Less;
-    }
-    if byte > b[0] || b.len() == 1 {
-        return byte.cmp(&b[0]);
-    }
-    Ordering::Less
+    a.cmp(&b)
 }
 
 /// How `front` followed by `byte` stands to `b`, without writing the byte.
+#[tactic(auto, using(crate::proofs::WithByte::order_in_parts, crate::proofs::WithByte::order_before_byte))]
 pub fn compare_with_byte(front: &[u8], byte: u8, b: &[u8]) -> Ordering
     ensures { result ≡ order (front.now ++ (byte ∷ [])) b.now }
 {
-    if front.len() < b.len() {
-        return compare(front, &b[0..front.len()]).then(compare_byte(byte, &b[front.len()..]));
+    match b.split_at_checked(front.len()) {
+        Some((head, rest)) => compare(front, head).then(compare([byte].as_slice(), rest)),
+        None => compare(front, b),
     }
-    compare(&front[0..b.len()], b).then(Ordering::Greater)
 }
 
 /// Whether `b` begins with `a`.
+#[tactic(auto, using(crate::proofs::Library::front_is_begins, crate::proofs::Library::longer_begins_none))]
 pub fn starts_with(a: &[u8], b: &[u8]) -> bool
     ensures { result ≡ begins a.now b.now }
 {
-    first_difference(a, b) == a.len()
+    // The library's `starts_with` is a call in a search's every step; this tells most strings apart in line.
+    a.len() <= b.len() && a == &b[..a.len()]
 }
 
 /// Theorem: the order is strict and total, and is the one that its words say.
-pub fn order_is_strict_and_total() -> u8
+#[tactic(auto, using(crate::proofs::OrderLaws::order_law))]
+pub fn order_is_strict_and_total()
     ensures { OrderLaw }
-{
-    0
-}
+{}
 
 /// Theorem: a string begins with another exactly where some rest completes it.
-pub fn beginning_is_a_front() -> u8
+#[tactic(auto, using(crate::proofs::OrderLaws::begins_law))]
+pub fn beginning_is_a_front()
     ensures { BeginsLaw }
-{
-    0
-}
+{}

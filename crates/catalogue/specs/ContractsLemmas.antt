@@ -1,16 +1,12 @@
 -- What checking and opening a file promise. Assumes nothing.
-use Rattle.std.specs.Prelude.{◌≡◌, ℕ, true, false, ◌↔◌, List, is_some, is_ok, IfOk, Some, None, Ok, Err, vec_items, Option, Result, refl}
-use Rattle.std.proofs.Common.{sym, ◌∙◌, subst, arith}
+use Rattle.std.specs.Prelude.{◌≡◌, ℕ, true, false, ◌↔◌, List, is_some, is_ok, Some, None, Ok, Err, Option, Result, refl}
+use Rattle.std.proofs.Common.{sym, ◌∙◌, ap}
 use Rattle.std.specs.Result.{result_err}
 use Rattle.catalogue.specs.declared.refusal.Refusal.{Refusal}
-use Rattle.catalogue.specs.declared.catalogue.Catalogue.{Catalogue}
 use Rattle.catalogue.specs.Format.{File, file_of}
 use Rattle.catalogue.specs.Refusals.{refusal_of}
 use Rattle.catalogue.specs.WellFormed.{WellFormed, Refused}
-use Rattle.catalogue.specs.Tables.{table_of, AnswersBytes}
-use Rattle.catalogue.specs.First.{none_not_some}
 use Rattle.catalogue.specs.Accepts.{file_formed, file_not_refused}
-use Rattle.catalogue.specs.AnswersBytes.{answers_bytes}
 use Rattle.catalogue.specs.Refuses.{refusal_refused, refused_refusal}
 
 -- a file has no refusal exactly where it is well-formed
@@ -23,7 +19,7 @@ refusal_is_sentence file o h e = (λ k. refusal_refused file e (sym h ∙ k), λ
 
 ok_is_no_refusal : {T : Type 0} (r : Result T Refusal) → (is_ok r ≡ true) ↔ (result_err r ≡ None)
 ok_is_no_refusal (Ok x) = (λ _. refl, λ _. refl)
-ok_is_no_refusal (Err e) = (λ k. absurd (let z : ◌≡◌ {A = ℕ} 0 1 = cc in omega arith), λ k. none_not_some (Some e) e k refl)
+ok_is_no_refusal (Err e) = (λ k. cc, λ k. cc)
 
 -- a file is opened exactly where it is well-formed
 pub opened_is_well_formed : {T : Type 0} (file : File) (r : Result T Refusal) → result_err r ≡ refusal_of file → (is_ok r ≡ true) ↔ WellFormed file
@@ -34,13 +30,12 @@ opened_is_well_formed file r h =
 
 is_none : (o : Option Refusal) → is_some o ≡ false → o ≡ None
 is_none None h = refl
-is_none (Some e) h = absurd (let z : ◌≡◌ {A = ℕ} 0 1 = cc in omega arith)
+is_none (Some e) h = cc
 
 pub accepted_formed : (file : File) → is_some (refusal_of file) ≡ false → WellFormed file
 accepted_formed file h = file_formed file (is_none (refusal_of file) h)
 
--- an opened catalogue answers what the bytes say
-pub opened_answers_bytes : (bs : List ℕ) (r : Result Catalogue Refusal) → result_err r ≡ refusal_of (file_of bs)
-    → IfOk r (λ c. vec_items c.bytes ≡ bs) → IfOk r (λ c. AnswersBytes bs (table_of (file_of (vec_items c.bytes))))
-opened_answers_bytes bs (Ok c) h k = subst (λ b. AnswersBytes bs (table_of (file_of b))) (sym k) (answers_bytes bs (file_formed (file_of bs) (sym h)))
-opened_answers_bytes bs (Err e) h k = tt
+-- an error of checking bytes is the refusal of equal bytes
+pub error_is_refusal : {T : Type 0} (r : Result T Refusal) (e : Refusal) (bs cs : List ℕ) → r ≡ Err e → Some e ≡ refusal_of (file_of cs) → cs ≡ bs
+    → result_err r ≡ refusal_of (file_of bs)
+error_is_refusal r e bs cs h k m = ap result_err h ∙ k ∙ ap (λ b. refusal_of (file_of b)) m

@@ -7,12 +7,9 @@ use Rattle.catalogue.specs.declared.refusal.Refusal.{Refusal}
 use Rattle.catalogue.specs.Format.{File, body_start}
 use Rattle.catalogue.specs.Refusals.{first, or_else}
 
-pub none_not_some : (o : Option Refusal) (e : Refusal) {P : Type 0} → o ≡ None → o ≡ Some e → P
-none_not_some o e h k = absurd (let z : ◌≡◌ {A = ℕ} 0 1 = cc in omega arith)
-
 pub or_else_none : (x y : Option Refusal) → or_else x y ≡ None → (x ≡ None) × (y ≡ None)
 or_else_none None y h = (refl, h)
-or_else_none (Some e) y h = none_not_some (Some e) e h refl
+or_else_none (Some e) y h = cc
 
 pub or_else_some : (x y : Option Refusal) (e : Refusal) → or_else x y ≡ Some e → (x ≡ Some e) ⊎ ((x ≡ None) × (y ≡ Some e))
 or_else_some None y e h = inr (refl, h)
@@ -56,7 +53,7 @@ each_first_none f (suc n) h = ap (λ x. or_else x (f n)) (each_first_none f n (�
 pub first_some_where : (f : ℕ → Option Refusal) (e : Refusal) (n : ℕ) → first f n ≡ Some e
     → (i : ℕ) × (i < n) × ((j : ℕ) → j < i → f j ≡ None) × (f i ≡ Some e)
 unfolding first
-first_some_where f e zero h = none_not_some None e refl h
+first_some_where f e zero h = cc
 first_some_where f e (suc n) h =
     ⊎_elim (λ k. let w = first_some_where f e n k in (w.0, omega (arith, w.1), w.2, w.3))
     (λ k. (n, omega arith, first_none_each f n k.0, k.1))

@@ -102,18 +102,3 @@ module _ (file : File) (w : WellFormed file) where
       not_final = not_final;
       no_node = no_node;
     }
-
-  -- a byte below the sought one stands above all before it, and one above it below all after it
-  pub lower_before : (n m b : ℕ) → m < len_in file n → byte file n m < b → (p : ℕ) → p < m + 1 → byte file n p < b
-  lower_before n m b h k p l =
-      let c = len_some file n m h in
-      ⊎_elim (λ (q : p < m). let r : byte file n p < byte file n m = later_above file n (w.each_node n c.0) p m q c.1 in omega arith)
-      (λ (q : m ≤ p). let e : m ≡ p = omega arith in subst (λ i. byte file n i < b) e k)
-      (cases_lt p m)
-
-  pub higher_after : (n m b : ℕ) → b < byte file n m → (p : ℕ) → m ≤ p → p < len_in file n → b < byte file n p
-  higher_after n m b k p l h =
-      let c = len_some file n p h in
-      ⊎_elim (λ (q : m < p). let r : byte file n m < byte file n p = later_above file n (w.each_node n c.0) m p q c.1 in omega arith)
-      (λ (q : p ≤ m). let e : m ≡ p = omega arith in subst (λ i. b < byte file n i) e k)
-      (cases_lt m p)

@@ -2,6 +2,7 @@ pub mod Format
 pub mod Numbers
 pub mod Refusals
 pub mod WellFormed
+pub mod Bodies
 pub mod Checked
 pub mod Tables
 pub mod ContractsLemmas

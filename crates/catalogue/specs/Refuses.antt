@@ -1,5 +1,5 @@
 -- A refusal is given where its sentence holds, and not otherwise. Assumes nothing.
-use Rattle.std.specs.Prelude.{◌≡◌, ℕ, ◌+◌, ◌-◌, ◌*◌, ◌<◌, ◌≤◌, Bool, true, false, ◌⊎◌, Some, Option, ◌≢◌}
+use Rattle.std.specs.Prelude.{◌≡◌, ℕ, ◌+◌, ◌-◌, ◌*◌, ◌<◌, ◌≤◌, true, false, ◌⊎◌, Some, Option, ◌≢◌}
 use Rattle.std.proofs.Common.{◌∙◌, ap, subst, inl, inr, ⊎_elim, arith}
 use Rattle.std.proofs.lemmas.Bool.Decides.{nat_tests}
 use Rattle.std.proofs.lemmas.Bool.{cases_lt, cases_eq, cases_Bool}
@@ -8,12 +8,9 @@ use Rattle.catalogue.specs.declared.refusal.Refusal.TheVariants.{FileTooShort, N
 use Rattle.catalogue.specs.Format.{File, body_start, byte, target}
 use Rattle.catalogue.specs.Refusals.{first, or_else, transition_refusal, entry_refusal, node_refusal, head_refusal, refusal_of, malformed}
 use Rattle.catalogue.specs.WellFormed.{ByteAbove, ReachesNode, ReachesTransition, Refused}
-use Rattle.catalogue.specs.First.{none_not_some, or_else_some, first_found, first_some_where, each_first_none}
+use Rattle.catalogue.specs.First.{or_else_some, first_found, first_some_where, each_first_none}
 use Rattle.catalogue.specs.Accepts.{head_formed, fields_formed, entry_formed, transition_formed, node_formed}
 use Rattle.catalogue.specs.Accepts.{head_not_refused, fields_not_malformed, fields_malformed, entry_not_refused, transition_not_refused, node_not_refused}
-
-both_ways : {P : Type 0} (b : Bool) → b ≡ true → b ≡ false → P
-both_ways b h k = absurd (let z : ◌≡◌ {A = ℕ} 0 1 = cc in omega arith)
 
 module _ (file : File) where
   -- each sentence gives its refusal
@@ -66,7 +63,7 @@ module _ (file : File) where
       (λ (c : file.nodes ≤ 65535).
       ⊎_elim (λ (d : file.size < file.contents_end). the_same (head_refusal file) ContentsCutOff e (gives_cut_off a b c d) (a, b, c, d) h)
       (λ (d : file.contents_end ≤ file.size).
-      none_not_some (head_refusal file) e (head_not_refused file (record { long_enough = a; some_nodes = b; few_nodes = c; contents_whole = d })) h)
+      let k = head_not_refused file (record { long_enough = a; some_nodes = b; few_nodes = c; contents_whole = d }) in cc)
       (cases_lt file.size file.contents_end))
       (cases_lt 65535 file.nodes))
       (cases_lt file.nodes 1))
@@ -78,13 +75,13 @@ module _ (file : File) where
       (λ (a : file.place n ≡ body_start file n).
       ⊎_elim
       (λ (b : malformed file n ≡ true).
-      the_same (entry_refusal file n) (EntryMalformed n) e (gives_malformed n a b) (r, a, λ f. both_ways (malformed file n) b (fields_not_malformed file n f)) h)
+      the_same (entry_refusal file n) (EntryMalformed n) e (gives_malformed n a b) (r, a, λ f. let k = fields_not_malformed file n f in cc) h)
       (λ (b : malformed file n ≡ false).
       ⊎_elim
       (λ (c : file.size < file.place n + 13 * file.len n).
       the_same (entry_refusal file n) (BodyPastEnd n) e (gives_past_end n a b c) (r, a, fields_formed file n b, c) h)
       (λ (c : file.place n + 13 * file.len n ≤ file.size).
-      none_not_some (entry_refusal file n) e (entry_not_refused file n (record { placed = a; fields = fields_formed file n b; within = c })) h)
+      let k = entry_not_refused file n (record { placed = a; fields = fields_formed file n b; within = c }) in cc)
       (cases_lt file.size (file.place n + 13 * file.len n)))
       (cases_Bool (malformed file n)))
       (λ (a : file.place n ≡ body_start file n → ⊥). the_same (entry_refusal file n) (BodyMisplaced n) e (gives_misplaced n a) (r, a) h)
@@ -104,7 +101,7 @@ module _ (file : File) where
   transition_refused n p r e h =
       ⊎_elim
       (λ (a : ByteAbove file n p).
-      ⊎_elim (λ (b : target file n p < n). none_not_some (transition_refusal file n p) e (transition_not_refused file n p (a, b)) h)
+      ⊎_elim (λ (b : target file n p < n). let k = transition_not_refused file n p (a, b) in cc)
       (λ (b : n ≤ target file n p). the_same (transition_refusal file n p) (TargetNotBelow n) e (gives_not_below n p a b) (p, r, a, λ k. omega arith) h)
       (cases_lt (target file n p) n))
       (λ (a : ByteAbove file n p → ⊥). the_same (transition_refusal file n p) (ByteNotAbove n) e (gives_not_above n p a) (p, r, a) h)

@@ -33,13 +33,6 @@ module _ (file : File) where
     height = λ n. n;
   }
 
-  -- before position `low` the bytes of node n are below b, and from position `high` on above it
-  pub record Parted (n b low high : ℕ) : Type 0 where
-    pub in_order : low ≤ high
-    pub within : high ≤ len_in n
-    pub lower : (p : ℕ) → p < low → byte file n p < b
-    pub higher : (p : ℕ) → high ≤ p → p < len_in n → b < byte file n p
-
 -- the table t answers what the bytes bs say: each field is the little-endian number at its place, and lies within the file
 pub record AnswersBytes (bs : List ℕ) (t : Table) : Type 0 where
   -- bytes 0 to 3 hold the number of nodes, and the root is the last node

@@ -1,136 +1,126 @@
 //! The refusals of a file, in their order.
-ghost use Rattle.std.specs.Prelude.{◌≡◌, ◌+◌, ◌*◌, ◌<◌, ◌≤◌, ◌↔◌, length, Some, None, MatchResult};
+ghost use Rattle.std.specs.Prelude.{◌≡◌, true, ◌+◌, ◌*◌, ◌<◌, ◌≤◌, ◌↔◌, length, is_ok, Some, IfOk, MatchResult};
+ghost use Rattle.std.specs.Result.{result_err};
 ghost use Rattle.catalogue.specs.Format.{file_of, body_start};
-ghost use Rattle.catalogue.specs.Checked.{HeadChecked, EntryChecked, NodeChecked};
+ghost use Rattle.catalogue.specs.Bodies.{stored_transition, BodyOf};
+ghost use Rattle.catalogue.specs.Checked.{HeadChecked, EntryChecked, NodeChecked, refusal_behind};
 ghost use Rattle.catalogue.specs.Refusals.{first, malformed, transition_refusal, entry_refusal, node_refusal, head_refusal, refusal_of};
 ghost use Rattle.catalogue.specs.WellFormed.{WellFormed, Refused};
 
-use super::field::{
-    entry_final_output, entry_flag, entry_len, entry_padding, entry_place, file_nodes,
-    transition_byte, transition_target,
-};
+use super::entry::{ENTRY, Entry, HEAD, TRANSITION, file_nodes, read_transition};
 use super::refusal::Refusal;
+use graph::Transition;
 
 /// The number of nodes, where the contents are whole.
 fn check_head(bytes: &[u8]) -> Result<u32, Refusal>
     ensures { MatchResult result (HeadChecked (file_of bytes.now)) (λ e. head_refusal (file_of bytes.now) ≡ Some e) }
 {
-    if bytes.len() < 4 {
+    if bytes.len() < HEAD {
         return Err(Refusal::FileTooShort);
     }
     let nodes = file_nodes(bytes);
     if nodes == 0 || nodes > 65535 {
         return Err(Refusal::NodesOutOfRange);
     }
-    if bytes.len() < 4 + 16 * nodes as usize {
+    if bytes.len() < HEAD + ENTRY * nodes as usize {
         return Err(Refusal::ContentsCutOff);
     }
     Ok(nodes)
 }
 
-fn is_malformed(bytes: &[u8], node: u32) -> bool
-    requires { 20 + 16 * node ≤ length bytes.now }
-    ensures { result ≡ malformed (file_of bytes.now) node }
-{
-    entry_len(bytes, node) > 256
-        || entry_flag(bytes, node) > 1
-        || entry_padding(bytes, node) != 0
-        || entry_flag(bytes, node) == 0 && entry_final_output(bytes, node) > 0
-}
-
-/// The number of transitions, where the body begins at `start` and ends in the file.
-fn check_entry(bytes: &[u8], node: u32, start: usize) -> Result<usize, Refusal>
-    requires node_in_bounds { 20 + 16 * node ≤ length bytes.now }
-    requires start_value { start ≡ body_start (file_of bytes.now) node }
-    requires start_in_bounds { start ≤ length bytes.now }
-    ensures { MatchResult result (EntryChecked (file_of bytes.now) node) (λ e. entry_refusal (file_of bytes.now) node ≡ Some e) }
-{
-    if entry_place(bytes, node) != start {
-        return Err(Refusal::BodyMisplaced(node));
-    }
-    if is_malformed(bytes, node) {
-        return Err(Refusal::EntryMalformed(node));
-    }
-    let len = entry_len(bytes, node);
-    if 13 * len > bytes.len() - start {
-        return Err(Refusal::BodyPastEnd(node));
-    }
-    Ok(len)
-}
-
-fn check_transition(bytes: &[u8], node: u32, position: usize) -> Option<Refusal>
-    requires node_in_bounds { 20 + 16 * node ≤ length bytes.now }
-    requires position_in_bounds { (file_of bytes.now).place node + 13 * position + 13 ≤ length bytes.now }
-    ensures { result ≡ transition_refusal (file_of bytes.now) node position }
-{
-    if position > 0
-        && transition_byte(bytes, node, position) <= transition_byte(bytes, node, position - 1)
+impl<'a> Entry<'a> {
+    fn is_malformed(&self) -> bool
+        ensures { result ≡ malformed (file_of self.now.bytes.now) self.now.node }
     {
-        return Some(Refusal::ByteNotAbove(node));
+        self.len() > 256
+            || self.flag() > 1
+            || self.padding() != 0
+            || self.flag() == 0 && self.final_output() > 0
     }
-    if transition_target(bytes, node, position) >= node {
-        return Some(Refusal::TargetNotBelow(node));
-    }
-    None
-}
 
-fn check_body(bytes: &[u8], node: u32, len: usize) -> Option<Refusal>
-    requires node_in_bounds { 20 + 16 * node ≤ length bytes.now }
-    requires len_in_bounds { (file_of bytes.now).place node + 13 * len ≤ length bytes.now }
-    ensures { result ≡ first (transition_refusal (file_of bytes.now) node) len }
-{
-    for position in 0..len {
-        if let Some(refusal) = check_transition(bytes, node, position) {
-            return Some(refusal);
+    /// The body, where it begins at `start` and ends in the file.
+    fn check_entry(&self, start: usize) -> Result<&'a [[u8; TRANSITION]], Refusal>
+        requires start_value { start ≡ body_start (file_of self.now.bytes.now) self.now.node }
+        requires start_in_bounds { start ≤ length self.now.bytes.now }
+        ensures { let bs = self.now.bytes.now in MatchResult result (λ b. EntryChecked bs self.now.node b.now) (λ e. entry_refusal (file_of bs) self.now.node ≡ Some e) }
+    {
+        if self.place() != start {
+            return Err(Refusal::BodyMisplaced(self.node));
         }
+        if self.is_malformed() {
+            return Err(Refusal::EntryMalformed(self.node));
+        }
+        if TRANSITION * self.len() > self.bytes.len() - start {
+            return Err(Refusal::BodyPastEnd(self.node));
+        }
+        Ok(self.body())
     }
-    None
+
+    /// The byte of a transition, or why the transition can't stand behind the byte before, if there is one.
+    fn check_transition(&self, before: Option<u8>, stored: &[u8; TRANSITION]) -> Result<u8, Refusal>
+        ensures answer { result_err result ≡ refusal_behind self.now.node before (stored_transition stored.now) }
+        ensures byte { IfOk result (λ b. b ≡ (stored_transition stored.now).byte) }
+    {
+        let Transition { byte, target, .. } = read_transition(stored);
+        if before.is_some_and(|before| byte <= before) {
+            return Err(Refusal::ByteNotAbove(self.node));
+        }
+        if target >= self.node {
+            return Err(Refusal::TargetNotBelow(self.node));
+        }
+        Ok(byte)
+    }
+
+    fn check_body(&self, body: &[[u8; TRANSITION]]) -> Result<(), Refusal>
+        requires { BodyOf self.now.bytes.now self.now.node body.now }
+        ensures { result_err result ≡ first (transition_refusal (file_of self.now.bytes.now) self.now.node) (length body.now) }
+    {
+        let mut before = None;
+        for stored in body {
+            before = Some(self.check_transition(before, stored)?);
+        }
+        Ok(())
+    }
+
+    /// Where the following body has to begin.
+    fn check(&self, start: usize) -> Result<usize, Refusal>
+        requires start_value { start ≡ body_start (file_of self.now.bytes.now) self.now.node }
+        requires start_in_bounds { start ≤ length self.now.bytes.now }
+        ensures { let file = file_of self.now.bytes.now in MatchResult result (NodeChecked file self.now.node) (λ e. node_refusal file self.now.node ≡ Some e) }
+    {
+        let body = self.check_entry(start)?;
+        self.check_body(body)?;
+        Ok(start + TRANSITION * body.len())
+    }
 }
 
-/// Where the following body has to begin.
-fn check_node(bytes: &[u8], node: u32, start: usize) -> Result<usize, Refusal>
-    requires node_in_bounds { 20 + 16 * node ≤ length bytes.now }
-    requires start_value { start ≡ body_start (file_of bytes.now) node }
-    requires start_in_bounds { start ≤ length bytes.now }
-    ensures { MatchResult result (NodeChecked (file_of bytes.now) node) (λ e. node_refusal (file_of bytes.now) node ≡ Some e) }
-{
-    let len = check_entry(bytes, node, start)?;
-    if let Some(refusal) = check_body(bytes, node, len) {
-        return Err(refusal);
-    }
-    Ok(start + 13 * len)
-}
-
-fn check_nodes(bytes: &[u8], nodes: u32) -> Option<Refusal>
+fn check_nodes(bytes: &[u8], nodes: u32) -> Result<(), Refusal>
     requires nodes_value { nodes ≡ (file_of bytes.now).nodes }
     requires nodes_in_bounds { 4 + 16 * nodes ≤ length bytes.now }
-    ensures { result ≡ first (node_refusal (file_of bytes.now)) nodes }
+    ensures { result_err result ≡ first (node_refusal (file_of bytes.now)) nodes }
 {
-    let mut start = 4 + 16 * nodes as usize;
+    let mut start = HEAD + ENTRY * nodes as usize;
+    // a loop: each body has to begin where the one before it ended, which its invariant carries
     for node in 0..nodes {
-        match check_node(bytes, node, start) {
-            Ok(next) => start = next,
-            Err(refusal) => return Some(refusal),
-        }
+        start = Entry { bytes, node }.check(start)?;
     }
-    None
+    Ok(())
 }
 
-/// The first refusal of a file, if it has one.
-pub(crate) fn first_refusal(bytes: &[u8]) -> Option<Refusal>
-    ensures { result ≡ refusal_of (file_of bytes.now) }
+/// The first refusal of a file as an error.
+// Apart from what `check` says in words, so that a part left out is refused here and not in a proof.
+fn check_file(bytes: &[u8]) -> Result<(), Refusal>
+    ensures { result_err result ≡ refusal_of (file_of bytes.now) }
 {
-    match check_head(bytes) {
-        Ok(nodes) => check_nodes(bytes, nodes),
-        Err(refusal) => Some(refusal),
-    }
+    let nodes = check_head(bytes)?;
+    check_nodes(bytes, nodes)
 }
 
-/// The first refusal of a file, or none where it is accepted, without taking the bytes.
-pub fn check(bytes: &[u8]) -> Option<Refusal>
-    ensures answer { result ≡ refusal_of (file_of bytes.now) }
-    ensures accepted { (result ≡ None) ↔ WellFormed (file_of bytes.now) }
-    ensures refused { (e : Refusal) → (result ≡ Some e) ↔ Refused (file_of bytes.now) e }
+/// The first refusal of a file as an error, without taking the bytes.
+pub fn check(bytes: &[u8]) -> Result<(), Refusal>
+    ensures answer { result_err result ≡ refusal_of (file_of bytes.now) }
+    ensures accepted { (is_ok result ≡ true) ↔ WellFormed (file_of bytes.now) }
+    ensures refused { (e : Refusal) → (result_err result ≡ Some e) ↔ Refused (file_of bytes.now) e }
 {
-    first_refusal(bytes)
+    check_file(bytes)
 }

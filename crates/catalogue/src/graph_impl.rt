@@ -1,12 +1,68 @@
 //! An opened catalogue as a graph.
+ghost use Rattle.std.specs.Prelude.{◌≡◌, length, IfSome, is_some, nat_lt};
 ghost use Rattle.catalogue.specs.Format.{file_of};
-ghost use Rattle.catalogue.specs.Tables.{table_of};
+ghost use Rattle.catalogue.specs.Tables.{table_of, len_in};
+ghost use Rattle.catalogue.specs.Bodies.{BodyHeld};
+ghost use Rattle.catalogue.specs.WellFormed.{WellFormed};
+ghost use Rattle.graph.specs.Table.{Finds};
+ghost use Rattle.std.specs.Result.{result_ok};
 ghost use Rattle.catalogue.specs.ContractsLemmas.{accepted_formed};
 ghost use Rattle.catalogue.specs.Lawful.{table_lawful};
 
-use super::ask::{final_output_of, find_input_of, is_final_of, len_of, root_of, transition_of};
 use super::catalogue::Catalogue;
+use super::entry::{Entry, TRANSITION, file_nodes, read_transition};
 use graph::{Graph, Transition};
+
+impl Catalogue {
+    /// The bytes of the file, with what the questions rest on.
+    // Apart from `bytes`, so that other bytes than the file's are refused there and not in a proof.
+    fn accepted_bytes(&self) -> &[u8]
+        ensures answer { result.now ≡ self.now.bytes.items }
+        ensures well_formed { WellFormed (file_of result.now) }
+    {
+        self.bytes()
+    }
+
+    fn nodes(&self) -> u32
+        ensures { result ≡ (file_of self.now.bytes.items).nodes }
+    {
+        file_nodes(self.accepted_bytes())
+    }
+
+    /// The entry of a node, or none where the number names none.
+    fn entry(&self, node: u32) -> Option<Entry<'_>>
+        ensures some { is_some result ≡ nat_lt node (file_of self.now.bytes.items).nodes }
+        ensures of_node { IfSome result (λ e. (e.bytes.now ≡ self.now.bytes.items) × (e.node ≡ node)) }
+    {
+        let bytes = self.accepted_bytes();
+        // made where the test holds and not before: its type says that it lies in the file
+        if node < self.nodes() {
+            Some(Entry { bytes, node })
+        } else {
+            None
+        }
+    }
+
+    /// The transitions of a node as the file holds them, none where the number names no node.
+    fn body(&self, node: u32) -> &[[u8; TRANSITION]]
+        ensures len { length result.now ≡ len_in (file_of self.now.bytes.items) node }
+        ensures held { BodyHeld self.now.bytes.items node result.now }
+    {
+        // no `map_or`: that the body lies in the file is known here, and not in a closure
+        match self.entry(node) {
+            Some(entry) => entry.body(),
+            None => &[],
+        }
+    }
+
+    /// The position of the transition with a byte, or where it would stand: by halving, so at most nine looks.
+    fn search(&self, node: u32, byte: u8) -> Result<usize, usize>
+        ensures { Finds (table_of (file_of self.now.bytes.items)) node byte (result_ok result) }
+    {
+        self.body(node)
+            .binary_search_by_key(&byte, |transition| transition[0])
+    }
+}
 
 impl Graph for Catalogue {
     ghost table = { λ c. table_of (file_of c.bytes.items) };
@@ -14,7 +70,7 @@ impl Graph for Catalogue {
     ghost lawful = { λ g. table_lawful (file_of g.bytes.items) (accepted_formed (file_of g.bytes.items) g.accepted) g.byte_sized };
 
     fn root(&self) -> u32 {
-        root_of(self.accepted_bytes())
+        self.nodes() - 1
     }
 
     fn first_total(&self) -> u64 {
@@ -22,22 +78,22 @@ impl Graph for Catalogue {
     }
 
     fn len(&self, node: u32) -> usize {
-        len_of(self.accepted_bytes(), node)
+        self.entry(node).map_or(0, |entry| entry.len())
     }
 
     fn transition(&self, node: u32, position: usize) -> Option<Transition> {
-        transition_of(self.accepted_bytes(), node, position)
+        self.body(node).get(position).map(read_transition)
     }
 
     fn is_final(&self, node: u32) -> bool {
-        is_final_of(self.accepted_bytes(), node)
+        self.entry(node).is_some_and(|entry| entry.flag() == 1)
     }
 
     fn final_output(&self, node: u32) -> u64 {
-        final_output_of(self.accepted_bytes(), node)
+        self.entry(node).map_or(0, |entry| entry.final_output())
     }
 
     fn find_input(&self, node: u32, byte: u8) -> Option<usize> {
-        find_input_of(self.accepted_bytes(), node, byte)
+        self.search(node, byte).ok()
     }
 }

@@ -1,10 +1,9 @@
 //! A catalogue: a file of nodes and transitions, opened into a lawful graph.
 #![tactic(auto)]
 
-mod ask;
 mod catalogue;
 mod checking;
-mod field;
+mod entry;
 mod graph_impl;
 mod open;
 mod read;

@@ -3,7 +3,7 @@ ghost use Rattle.std.specs.Prelude.{◌≡◌};
 ghost use Rattle.catalogue.specs.Numbers.{numbered};
 
 /// The refusals in the order in which they are tried. From the fourth on, they carry the node.
-#[derive(Clone, Copy)]
+#[derive(Clone, Copy, Debug, PartialEq, Eq)]
 pub enum Refusal {
     /// The file has fewer than 4 bytes.
     FileTooShort,
@@ -28,6 +28,7 @@ impl Refusal {
     pub fn number(self) -> u8
         ensures answer { result ≡ (numbered self).number }
     {
+        // no cast: most of the cases carry a node
         match self {
             Refusal::FileTooShort => 1,
             Refusal::NodesOutOfRange => 2,
@@ -40,7 +41,7 @@ impl Refusal {
         }
     }
 
-    /// The node that the refusal carries, 0 where it carries none.
+    /// The node that the refusal carries: 0 for the first three, as the format has it.
     pub fn node(self) -> u32
         ensures answer { result ≡ (numbered self).node }
     {

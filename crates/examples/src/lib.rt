@@ -4,8 +4,6 @@
 ghost use Rattle.examples.specs.Examples.{Examples};
 
 /// Theorem: the worked examples hand out what they say.
-pub fn settled_examples() -> u8
+pub fn settled_examples()
     ensures { Examples }
-{
-    0
-}
+{}

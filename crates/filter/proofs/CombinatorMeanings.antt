@@ -1,12 +1,14 @@
 -- What the combinators mean, by what the filters that they hold match. Assumes nothing.
-use Rattle.std.proofs.Common.{◌≡◌, ℕ, Bool, true, false, cond, not, ◌&&◌, ◌||◌, List, [], ◌∷◌, ◌++◌, sym, refl, ap, ◌∙◌, subst}
+use Rattle.std.proofs.Common.{◌≡◌, ℕ, Bool, true, false, cond, List, [], ◌∷◌, ◌++◌, Decides, sym, refl, ap, subst}
 use Rattle.std.proofs.lemmas.Bool.{false≢true}
 use Rattle.std.proofs.lemmas.Bool.Decides.{Decides-at, Decides-and, Decides-or, Decides-not}
+use Rattle.std.proofs.lemmas.List.Folds.{fold_stays}
+use Rattle.std.proofs.lemmas.List.Sums.{fold_push}
 use Rattle.filter.specs.declared.StartsWithState.TheVariants.{Done, Running}
 use Rattle.filter.specs.Filter.{Filter, run}
-use Rattle.filter.specs.Tables.{always_match_table, starts_with_table, starts_with_is_match, union_table, intersection_table, complement_table, closed_table, slash}
-use Rattle.filter.specs.Meanings.{Keys, Means, matches, AllKeys, StartingWith, UnionOf, IntersectionOf, ComplementOf, FollowedBySlash}
-use Rattle.filter.proofs.Runs.{run_append, starts_with_run_done, union_run, intersection_run, complement_run, closed_run}
+use Rattle.filter.specs.Tables.{always_match_table, starts_with_table, starts_with_is_match, starts_with_accept, joined, pair_table, union_table, intersection_table, complement_table, closed_table, slash}
+use Rattle.filter.specs.Meanings.{Keys, Means, matches, AllKeys, StartingWith, UnionOf, IntersectionOf, PairOf, ComplementOf, FollowedBySlash}
+use Rattle.filter.proofs.Runs.{pair_run}
 use Rattle.filter.proofs.Verdicts.{matched_is_accepted}
 
 pub always_match_table_means : Means always_match_table AllKeys AllKeys
@@ -25,7 +27,7 @@ module _ {S : Type 0} (f : Filter S) where
       (b ∷ r.0, r.1, ap (λ q. b ∷ q) r.2, r.3)
 
   prefix_suffices : (s : S) (m : Bool) (u v : List ℕ) → f.is_match s ≡ m → f.is_match (run f s u) ≡ true → starts_with_is_match (run (starts_with_table f) (cond m Done (Running s)) (u ++ v)) ≡ true
-  prefix_suffices s true u v e h = ap starts_with_is_match (starts_with_run_done f (u ++ v))
+  prefix_suffices s true u v e h = ap starts_with_is_match (fold_stays (starts_with_accept f) Done (λ b. refl) (u ++ v))
   prefix_suffices s false [] v e h = cc
   prefix_suffices s false (b ∷ u) v e h = prefix_suffices (f.accept s b) (f.is_match (f.accept s b)) u v refl h
 
@@ -37,23 +39,26 @@ module _ {S : Type 0} (f : Filter S) (M V : Keys) (m : Means f M V) where
   ))
 
   pub complement_table_means : Means (complement_table f) (ComplementOf M) (ComplementOf M)
-  complement_table_means = matched_is_accepted (complement_table f) (ComplementOf M) (λ w. refl) (λ w.
-      Decides-at _ (not (matches f w)) (ap (complement_table f).is_match (complement_run f _ w)) (Decides-not _ (m.matching w)))
+  complement_table_means = matched_is_accepted (complement_table f) (ComplementOf M) (λ w. refl) (λ w. Decides-not _ (m.matching w))
 
   -- the end state is the state after the key followed by "/"
   pub closed_table_means : Means (closed_table f) M (FollowedBySlash M)
   closed_table_means = record {
-    matching = λ w. Decides-at _ (matches f w) (ap f.is_match (closed_run f f.start w)) (m.matching w);
-    accepting = λ k. Decides-at _ (matches f (k ++ (slash ∷ [])))
-        (ap (λ q. f.is_match (f.accept q slash)) (closed_run f f.start k) ∙ ap f.is_match (sym (run_append f f.start k (slash ∷ []))))
-        (m.matching (k ++ (slash ∷ [])));
+    matching = m.matching;
+    accepting = λ k. Decides-at _ (matches f (k ++ (slash ∷ []))) (ap f.is_match (sym (fold_push f.accept f.start k slash))) (m.matching (k ++ (slash ∷ [])));
   }
 
 module _ {S R : Type 0} (f : Filter S) (g : Filter R) (M V N W : Keys) (m : Means f M V) (n : Means g N W) where
+  pub pair_table_means : (any : Bool) → Means (pair_table (joined any) f g) (PairOf any M N) (PairOf any M N)
+  pair_table_means any = matched_is_accepted (pair_table (joined any) f g) (PairOf any M N) (λ w. refl) (λ w.
+      Decides-at _ (joined any (matches f w) (matches g w)) (ap (pair_table (joined any) f g).is_match (pair_run (joined any) f g _ w)) (decided any w))
+    where
+      decided : (any : Bool) (w : List ℕ) → Decides (joined any (matches f w) (matches g w)) (PairOf any M N w)
+      decided true w = Decides-or _ _ (m.matching w) (n.matching w)
+      decided false w = Decides-and _ _ (m.matching w) (n.matching w)
+
   pub union_table_means : Means (union_table f g) (UnionOf M N) (UnionOf M N)
-  union_table_means = matched_is_accepted (union_table f g) (UnionOf M N) (λ w. refl) (λ w.
-      Decides-at _ (matches f w || matches g w) (ap (union_table f g).is_match (union_run f g _ w)) (Decides-or _ _ (m.matching w) (n.matching w)))
+  union_table_means = pair_table_means true
 
   pub intersection_table_means : Means (intersection_table f g) (IntersectionOf M N) (IntersectionOf M N)
-  intersection_table_means = matched_is_accepted (intersection_table f g) (IntersectionOf M N) (λ w. refl) (λ w.
-      Decides-at _ (matches f w && matches g w) (ap (intersection_table f g).is_match (intersection_run f g _ w)) (Decides-and _ _ (m.matching w) (n.matching w)))
+  intersection_table_means = pair_table_means false

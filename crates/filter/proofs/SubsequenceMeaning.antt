@@ -1,5 +1,5 @@
 -- Subsequence matches exactly the keys that its bytes are a subsequence of. Assumes nothing.
-use Rattle.std.proofs.Common.{◌≡◌, ℕ, ◌+◌, ◌≤◌, Bool, true, false, cond, eqb, ltb, List, [], ◌∷◌, length, get_or, drop, sym, refl, ap, ◌∙◌, subst, arith, length-drop}
+use Rattle.std.proofs.Common.{◌≡◌, ℕ, ◌+◌, ◌≤◌, Bool, true, false, cond, eqb, ltb, List, [], ◌∷◌, length, get_or, drop, sym, refl, ap, ◌∙◌, arith, length-drop}
 use Rattle.std.proofs.lemmas.List.{drop_all, drop_more}
 use Rattle.std.proofs.lemmas.Bool.{eq-eqb, ltb-true, ltb-false, eqb-true, eqb-false}
 use Rattle.filter.specs.Filter.{run}
@@ -39,12 +39,12 @@ module _ (t : List ℕ) where
       let lt = ltb-true p (length t) e in
       let same = eqb-true (get_or t p 0) b d in
       let front : drop p t ≡ b ∷ drop (p + 1) t = drop_more t p 0 lt ∙ ap (λ x. x ∷ drop (p + 1) t) same in
-      subst (λ l. SubsequenceOf l (b ∷ w)) (sym front) (taken (rest (p + 1) (omega arith) h))
+      rw front (taken (rest (p + 1) (omega arith) h))
   found_one_byte p b w true false e d rest k h = skipped (rest p k h)
   found_one_byte p b w false q e d rest k h = skipped (rest p k h)
 
   matched_is_subsequence : (w : List ℕ) (p : ℕ) → p ≤ length t → Matched p w → SubsequenceOf (drop p t) w
-  matched_is_subsequence [] p h m = let e = eqb-true p (length t) m in subst (λ l. SubsequenceOf l []) (sym (drop_all p t (omega arith))) ended
+  matched_is_subsequence [] p h m = let e = eqb-true p (length t) m in rw (drop_all p t (omega arith)) ended
   matched_is_subsequence (b ∷ w) p h m = found_one_byte p b w (ltb p (length t)) (eqb (get_or t p 0) b) refl refl (matched_is_subsequence w) h m
 
   matched_one_byte : (p b : ℕ) (w : List ℕ) (a q : Bool) → ltb p (length t) ≡ a → eqb (get_or t p 0) b ≡ q
@@ -52,14 +52,14 @@ module _ (t : List ℕ) where
       → p ≤ length t → SubsequenceOf (drop p t) (b ∷ w) → Matched (cond a (cond q (p + 1) p) p) w
   matched_one_byte p b w true true e d rest k s =
       let lt = ltb-true p (length t) e in
-      rest (p + 1) (omega arith) (without_both_firsts (subst (λ l. SubsequenceOf l (b ∷ w)) (drop_more t p 0 lt) s))
+      rest (p + 1) (omega arith) (without_both_firsts (rw (drop_more t p 0 lt) at s))
   matched_one_byte p b w true false e d rest k s =
       let lt = ltb-true p (length t) e in
       let front = drop_more t p 0 lt in
-      rest p k (subst (λ l. SubsequenceOf l w) (sym front) (first_differs (eqb-false (get_or t p 0) b d) (subst (λ l. SubsequenceOf l (b ∷ w)) front s)))
+      rest p k (rw front (first_differs (eqb-false (get_or t p 0) b d) (rw front at s)))
   matched_one_byte p b w false q e d rest k s =
       let over = ltb-false p (length t) e in
-      rest p k (subst (λ l. SubsequenceOf l w) (sym (drop_all p t over)) (empty_in_all w))
+      rest p k (rw (drop_all p t over) (empty_in_all w))
 
   subsequence_is_matched : (w : List ℕ) (p : ℕ) → p ≤ length t → SubsequenceOf (drop p t) w → Matched p w
   subsequence_is_matched [] p h s = let n = sym (length-drop p t) ∙ ap length (only_empty_in_empty s) in eq-eqb p (length t) (omega arith)

@@ -2,9 +2,9 @@
 use Rattle.std.proofs.Common.{◌≡◌, ℕ, false, List, ◌++◌, Some, None, Decides, Option, refl, ap, ◌∙◌}
 use Rattle.std.proofs.lemmas.Bool.{both_ways}
 use Rattle.std.proofs.lemmas.Bool.Decides.{Decides-at}
+use Rattle.std.proofs.lemmas.List.Sums.{fold-append}
 use Rattle.filter.specs.Filter.{Filter, Lawful, run, verdict_by, verdict}
 use Rattle.filter.specs.Meanings.{Keys, Means, matches, CannotMatchAfter, AlwaysMatchesAfter}
-use Rattle.filter.proofs.Runs.{run_append}
 
 -- a filter that gives no end state accepts what it matches
 pub matched_is_accepted : {S : Type 0} (f : Filter S) (M : Keys) → ((w : List ℕ) → verdict f w ≡ matches f w) → ((w : List ℕ) → Decides (matches f w) (M w)) → Means f M M
@@ -12,7 +12,7 @@ matched_is_accepted f M e h = record { matching = h; accepting = λ k. Decides-a
 
 module _ {S : Type 0} (f : Filter S) (M V : Keys) (l : Lawful f) (m : Means f M V) (w : List ℕ) where
   run_goes_on : (v : List ℕ) → run f f.start (w ++ v) ≡ run f (run f f.start w) v
-  run_goes_on v = run_append f f.start w v
+  run_goes_on v = fold-append f.accept f.start w v
 
   verdict_is_no : (s : S) (v : List ℕ) → f.can_match s ≡ false → (o : Option S) → f.end_state (run f s v) ≡ o → verdict_by f (run f s v) o ≡ false
   verdict_is_no s v h None e = l.cannot_match s v h

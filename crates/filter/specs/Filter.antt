@@ -1,5 +1,6 @@
 -- A filter by the table of its answers: its runs, its verdicts and its laws. Assumes nothing.
-use Rattle.std.specs.Prelude.{◌≡◌, ℕ, Bool, true, false, List, [], ◌∷◌, Some, None, Option}
+use Rattle.std.specs.Prelude.{◌≡◌, ℕ, Bool, true, false, List, Some, None, Option}
+use Rattle.std.specs.List.{fold}
 
 -- what a filter with states of type S answers to each of its questions
 pub record Filter (S : Type 0) : Type 0 where
@@ -12,8 +13,7 @@ pub record Filter (S : Type 0) : Type 0 where
 
 -- the state after the bytes w from the state s
 abbrev pub run : {S : Type 0} → Filter S → S → List ℕ → S
-run f s [] = s
-run f s (b ∷ w) = run f (f.accept s b) w
+run f s w = fold f.accept s w
 
 -- the verdict at a state q: by the end state e if one is given, else by q itself
 abbrev pub verdict_by : {S : Type 0} → Filter S → S → Option S → Bool

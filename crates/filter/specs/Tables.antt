@@ -2,9 +2,7 @@
 use Rattle.std.specs.Prelude.{ℕ, ◌+◌, Bool, true, false, cond, not, ◌&&◌, ◌||◌, List, length, is_some, Some, None, Option, ◌==◌, nat_lt, slice_index}
 use Rattle.filter.specs.declared.StartsWithState.{StartsWithState}
 use Rattle.filter.specs.declared.StartsWithState.TheVariants.{Done, Running}
-use Rattle.filter.specs.declared.UnionState.{UnionState}
-use Rattle.filter.specs.declared.IntersectionState.{IntersectionState}
-use Rattle.filter.specs.declared.ComplementState.{ComplementState}
+use Rattle.filter.specs.declared.PairState.{PairState}
 use Rattle.filter.specs.Filter.{Filter}
 
 -- Str: the state is the number of bytes that agreed, or none after one that did not
@@ -77,42 +75,38 @@ starts_with_table f = record {
 }
 
 -- the combinators give no end state, and do not ask for that of what they hold
-abbrev pub union_state : {S R : Type 0} → S → R → UnionState S R
-union_state s r = record { left = s; right = r }
+abbrev pub pair_state : {S R : Type 0} → S → R → PairState S R
+pair_state s r = record { left = s; right = r }
 
-abbrev pub union_table : {S R : Type 0} → Filter S → Filter R → Filter (UnionState S R)
-union_table f g = record {
-  start = union_state f.start g.start;
-  is_match = λ s. f.is_match s.left || g.is_match s.right;
-  can_match = λ s. f.can_match s.left || g.can_match s.right;
-  will_always_match = λ s. f.will_always_match s.left || g.will_always_match s.right;
-  accept = λ s b. union_state (f.accept s.left b) (g.accept s.right b);
+-- two filters side by side: the connective joins their answers
+abbrev pub pair_table : {S R : Type 0} → (Bool → Bool → Bool) → Filter S → Filter R → Filter (PairState S R)
+pair_table join f g = record {
+  start = pair_state f.start g.start;
+  is_match = λ s. join (f.is_match s.left) (g.is_match s.right);
+  can_match = λ s. join (f.can_match s.left) (g.can_match s.right);
+  will_always_match = λ s. join (f.will_always_match s.left) (g.will_always_match s.right);
+  accept = λ s b. pair_state (f.accept s.left b) (g.accept s.right b);
   end_state = λ _. None;
 }
 
-abbrev pub intersection_state : {S R : Type 0} → S → R → IntersectionState S R
-intersection_state s r = record { left = s; right = r }
+abbrev pub union_table : {S R : Type 0} → Filter S → Filter R → Filter (PairState S R)
+union_table f g = pair_table ◌||◌ f g
 
-abbrev pub intersection_table : {S R : Type 0} → Filter S → Filter R → Filter (IntersectionState S R)
-intersection_table f g = record {
-  start = intersection_state f.start g.start;
-  is_match = λ s. f.is_match s.left && g.is_match s.right;
-  can_match = λ s. f.can_match s.left && g.can_match s.right;
-  will_always_match = λ s. f.will_always_match s.left && g.will_always_match s.right;
-  accept = λ s b. intersection_state (f.accept s.left b) (g.accept s.right b);
-  end_state = λ _. None;
-}
+abbrev pub intersection_table : {S R : Type 0} → Filter S → Filter R → Filter (PairState S R)
+intersection_table f g = pair_table ◌&&◌ f g
 
-abbrev pub complement_state : {S : Type 0} → S → ComplementState S
-complement_state s = record { inner = s }
+-- the connective of a pair that asks for a yes of any, or of both
+abbrev pub joined : Bool → Bool → Bool → Bool
+joined true x y = x || y
+joined false x y = x && y
 
-abbrev pub complement_table : {S : Type 0} → Filter S → Filter (ComplementState S)
+abbrev pub complement_table : {S : Type 0} → Filter S → Filter S
 complement_table f = record {
-  start = complement_state f.start;
-  is_match = λ s. not (f.is_match s.inner);
-  can_match = λ s. not (f.will_always_match s.inner);
-  will_always_match = λ s. not (f.can_match s.inner);
-  accept = λ s b. complement_state (f.accept s.inner b);
+  start = f.start;
+  is_match = λ s. not (f.is_match s);
+  can_match = λ s. not (f.will_always_match s);
+  will_always_match = λ s. not (f.can_match s);
+  accept = f.accept;
   end_state = λ _. None;
 }
 

@@ -1,10 +1,10 @@
 -- The keys of a shift are those beneath it, with their totals raised. Assumes nothing.
 use Rattle.std.specs.Prelude.{◌≡◌, ℕ, ◌+◌, [], ◌∷◌, refl}
-use Rattle.std.proofs.Common.{ap, subst, ◌∙◌, arith}
+use Rattle.std.proofs.Common.{ap, subst, sym, arith}
 use Rattle.byte_strings.specs.Order.{Bytes}
 use Rattle.graph.specs.Table.{Table, Lawful}
 use Rattle.graph.specs.Keys.{Leads}
-use Rattle.graph.specs.Shifted.{with_first_total, raised_total, shifted, RaisesTotals}
+use Rattle.graph.specs.Shifted.{with_first_total, shifted, RaisesTotals}
 
 -- the laws say nothing of the first total
 pub with_first_total_lawful : (t : Table) (s : ℕ) → Lawful t → Lawful (with_first_total t s)
@@ -57,6 +57,6 @@ module _ (t : Table) (by : ℕ) where
         );
   }
 
--- a graph that is kept and a first total that is raised make the table of the shift
-pub shifted_since : {G : Type 0} (table : G → Table) (a b : G) (s by : ℕ) → a ≡ b → s ≡ raised_total (table b) by → with_first_total (table a) s ≡ shifted (table b) by
-shifted_since table a b s by e f = ap (λ z. with_first_total (table z) s) e ∙ ap (with_first_total (table b)) f
+-- the same of a first total that is the raised one
+pub raises_totals_since : (t : Table) (s by : ℕ) → s ≡ t.first_total + by → RaisesTotals t (with_first_total t s) by
+raises_totals_since t s by e = subst (λ v. RaisesTotals t (with_first_total t v) by) (sym e) (shift_raises_totals t by)

@@ -11,7 +11,7 @@ pub use refusal::Refusal;
 pub use shift::{Shift, Unshifted};
 
 /// One step of a path: its byte, its output and the node that it leads to.
-#[derive(Clone, Copy)]
+#[derive(Clone, Copy, Debug, PartialEq, Eq)]
 pub struct Transition {
     pub byte: u8,
     pub output: u64,
@@ -19,6 +19,7 @@ pub struct Transition {
 }
 
 /// A graph. Its questions do not change it, and each has one answer: the table's.
+// Nodes by number, and no tree of boxes: lists and files have them so, and own no node apart.
 pub trait Graph {
     ghost table: { Self → Table };
 
@@ -37,6 +38,8 @@ pub trait Graph {
     /// The transition of a node at a position, or none beyond the last.
     fn transition(&self, node: u32, position: usize) -> Option<Transition>
         ensures { result ≡ (table self.now).transition node position };
+
+    // a flag and an output, as files and tables have them: a final node may add 0
 
     /// Whether the path to a node is a key.
     fn is_final(&self, node: u32) -> bool

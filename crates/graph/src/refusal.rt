@@ -3,10 +3,10 @@ ghost use Rattle.std.specs.Prelude.{◌≡◌};
 ghost use Rattle.graph.specs.Numbers.{number_of};
 
 /// What keeps a graph from being shifted.
-#[derive(Clone, Copy)]
+#[derive(Clone, Copy, Debug, PartialEq, Eq)]
 pub enum Refusal {
     /// The number and the first total beneath it sum above 2^64 − 1.
-    ShiftTooLarge,
+    ShiftTooLarge = 12,
 }
 
 impl Refusal {
@@ -14,8 +14,6 @@ impl Refusal {
     pub fn number(self) -> u8
         ensures { result ≡ number_of self }
     {
-        match self {
-            Refusal::ShiftTooLarge => 12,
-        }
+        self as u8
     }
 }

@@ -22,24 +22,10 @@ pub struct Unshifted<G> {
     pub refusal: Refusal,
 }
 
-/// The graph with its first total raised by a number, or handed back where the sum does not fit.
-fn raise<G: Graph>(graph: G, by: u64) -> Result<Shift<G>, Unshifted<G>>
-    ensures accepted { IfOk result (λ s. (s.graph ≡ graph) × (s.first_total ≡ raised_total (G.Graph.table graph) by)) }
-    ensures decided { MatchResult result (λ _. raised_total (G.Graph.table graph) by < 2 ^ 64) (λ _. 2 ^ 64 ≤ raised_total (G.Graph.table graph) by) }
-    ensures refused { IfErr result (λ u. (u.graph ≡ graph) × (number_of u.refusal ≡ 12)) }
-{
-    let Some(first_total) = graph.first_total().checked_add(by) else {
-        return Err(Unshifted {
-            graph,
-            refusal: Refusal::ShiftTooLarge,
-        });
-    };
-    Ok(Shift { graph, first_total })
-}
-
 impl<G: Graph> Shift<G> {
     /// The graph with its first total raised by a number, or handed back where the sum does not fit.
     /// Its keys are the graph's, at the same nodes, with their totals raised. A key of a lawful graph has one path and one total.
+    #[tactic(auto, using(crate::specs::Shifts::raises_totals_since, crate::proofs::Paths::key_has_one_path_and_one_total))]
     pub fn new(graph: G, by: u64) -> Result<Shift<G>, Unshifted<G>>
         ensures accepted { IfOk result (λ s. (s.graph ≡ graph) × (with_first_total (G.Graph.table s.graph) s.first_total ≡ shifted (G.Graph.table graph) by)) }
         ensures decided { MatchResult result (λ _. raised_total (G.Graph.table graph) by < 2 ^ 64) (λ _. 2 ^ 64 ≤ raised_total (G.Graph.table graph) by) }
@@ -47,7 +33,14 @@ impl<G: Graph> Shift<G> {
         ensures keys { IfOk result (λ s. RaisesTotals (G.Graph.table graph) (with_first_total (G.Graph.table s.graph) s.first_total) by) }
         ensures one_total { LawfulHasOneTotal }
     {
-        raise(graph, by)
+        // no `ok_or`: the graph goes into one of the two answers
+        let Some(first_total) = graph.first_total().checked_add(by) else {
+            return Err(Unshifted {
+                graph,
+                refusal: Refusal::ShiftTooLarge,
+            });
+        };
+        Ok(Shift { graph, first_total })
     }
 }
 

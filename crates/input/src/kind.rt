@@ -1,9 +1,10 @@
 //! What the first character of a line says of the rest.
-ghost use Rattle.std.specs.Prelude.{◌≡◌};
-ghost use Rattle.input.specs.Asked.{kind_of};
+ghost use Rattle.input.specs.Kinds.{Says};
+
+use crate::refusal::Refusal;
 
 /// The kind of a line.
-#[derive(Clone, Copy)]
+#[derive(Clone, Copy, Debug, PartialEq, Eq)]
 pub enum Kind {
     /// A lower bound, Included.
     Ge,
@@ -23,19 +24,23 @@ pub enum Kind {
     Name,
 }
 
-/// The kind that the first character of a line says, or none where it says none.
-pub fn kind_of(first: u8) -> Option<Kind>
-    ensures { result ≡ kind_of first }
-{
-    match first as char {
-        'G' => Some(Kind::Ge),
-        'g' => Some(Kind::Gt),
-        'L' => Some(Kind::Le),
-        'l' => Some(Kind::Lt),
-        'P' => Some(Kind::Prefix),
-        'S' => Some(Kind::Subsequence),
-        'B' => Some(Kind::Shift),
-        '+' => Some(Kind::Name),
-        _ => None,
+/// The kind that the first character of a line says; a line whose first character says none is bad.
+impl TryFrom<u8> for Kind {
+    type Error = Refusal;
+
+    ghost try_from_gives = { Says };
+
+    fn try_from(first: u8) -> Result<Kind, Refusal> {
+        match first {
+            b'G' => Ok(Kind::Ge),
+            b'g' => Ok(Kind::Gt),
+            b'L' => Ok(Kind::Le),
+            b'l' => Ok(Kind::Lt),
+            b'P' => Ok(Kind::Prefix),
+            b'S' => Ok(Kind::Subsequence),
+            b'B' => Ok(Kind::Shift),
+            b'+' => Ok(Kind::Name),
+            _ => Err(Refusal::BadLine),
+        }
     }
 }

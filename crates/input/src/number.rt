@@ -6,17 +6,17 @@ ghost use Rattle.input.specs.Number.{with_digit, number};
 fn with_digit(value: u64, byte: u8) -> Option<u64>
     ensures { result ≡ with_digit value byte }
 {
-    if byte < b'0' || byte > b'9' {
-        return None;
+    match byte {
+        b'0'..=b'9' => value.checked_mul(10)?.checked_add(u64::from(byte - b'0')),
+        _ => None,
     }
-    value.checked_mul(10)?.checked_add(u64::from(byte - b'0'))
 }
 
-/// The number that the digits write, or none where they write none.
+/// The number that the digits write, or none where they write none: no `parse`, which takes a sign and more zeros.
 pub fn read_number(digits: &[u8]) -> Option<u64>
     ensures { result ≡ number digits.now }
 {
-    if digits.len() == 0 || digits.len() > 20 {
+    if digits.is_empty() || digits.len() > 20 {
         return None;
     }
     let mut value = 0;

@@ -1,9 +1,12 @@
 //! Why an input is not read.
 ghost use Rattle.std.specs.Prelude.{◌≡◌};
 ghost use Rattle.input.specs.Reading.{number_of};
+ghost use Rattle.input.specs.declared.refusal.ReadError.TheVariants.{Refused, OutOfMemory};
+
+use std::alloc::AllocFailed;
 
 /// What keeps an input from being read.
-#[derive(Clone, Copy)]
+#[derive(Clone, Copy, Debug, PartialEq, Eq)]
 pub enum Refusal {
     /// It exceeds 65,535 bytes.
     InputTooLong,
@@ -18,6 +21,7 @@ impl Refusal {
     pub fn number(self) -> u8
         ensures { result ≡ number_of self }
     {
+        // no cast: two of the cases share a number
         match self {
             Refusal::InputTooLong => 20,
             Refusal::BadLine => 19,
@@ -27,8 +31,24 @@ impl Refusal {
 }
 
 /// Why there is nothing read: a refusal, or want of memory.
-#[derive(Clone, Copy)]
+#[derive(Clone, Copy, Debug, PartialEq, Eq)]
 pub enum ReadError {
     Refused(Refusal),
     OutOfMemory,
+}
+
+impl From<Refusal> for ReadError {
+    ghost from_gives = { λ refusal e. e ≡ Refused refusal };
+
+    fn from(refusal: Refusal) -> ReadError {
+        ReadError::Refused(refusal)
+    }
+}
+
+impl<T: Drop> From<AllocFailed<T>> for ReadError {
+    ghost from_gives = { λ _ e. e ≡ OutOfMemory };
+
+    fn from(_failed: AllocFailed<T>) -> ReadError {
+        ReadError::OutOfMemory
+    }
 }

@@ -181,12 +181,12 @@ module _ (g : Table) where
                 let p = lawful.cannot_match r.state (b ∷ u) c in
                 let q = ap (verdict_by f (run f r.state (b ∷ u))) d in
                 let z : ◌≡◌ {A = Bool} false true = sym p ∙ sym q ∙ yes_here in
-                let v : ◌≡◌ {A = ℕ} 0 1 = cc in omega arith
+                cc
             late (Some s) d =
                 let p = lawful.cannot_match_at_end r.state (b ∷ u) s c d in
                 let q = ap (verdict_by f (run f r.state (b ∷ u))) d in
                 let z : ◌≡◌ {A = Bool} false true = sym p ∙ sym q ∙ yes_here in
-                let v : ◌≡◌ {A = ℕ} 0 1 = cc in omega arith
+                cc
 
         absent : ltb r.position (g.len r.node) ≡ false → ⊥
         absent p =
@@ -198,4 +198,4 @@ module _ (g : Table) where
         go : (p c : Bool) → ltb r.position (g.len r.node) ≡ p → f.can_match r.state ≡ c → (not p || not c) ≡ true → ⊥
         go false c p q s = absent p
         go true false p q s = dead q
-        go true true p q s = let v : ◌≡◌ {A = ℕ} 0 1 = cc in omega arith
+        go true true p q s = cc

@@ -32,7 +32,7 @@ module _ {S : Type 0} (g : Table) (f : Filter S) (lo hi : BoundValue) (law : Law
         counted = i.counted;
         frame = i.frame;
         waits = i.waits;
-        stood = λ e. absurd (let p : ◌≡◌ {A = ℕ} 0 1 = cc in omega arith);
+        stood = λ e. cc;
       })
   kept y es (next {y = z} {es = fs} h x sh sv) = (next_well g f lo hi law lawful x fs (serve g f lo hi z x fs (kept z fs h) sh sv) sh).inv
   kept y es (key_refused h x e sh) = kept y es h
@@ -72,9 +72,9 @@ module _ {S : Type 0} (g : Table) (f : Filter S) (lo hi : BoundValue) (law : Law
     where
       go : (a b : Bool) → a ≡ false → b ≡ true →
           cond a (NoPart 13) (cond b (Standing (take (x.search.depth - 1) x.key_area)) (NoPart 18)) ≡ Standing (take (x.search.depth - 1) x.key_area)
-      go true b p q = absurd (let z : ◌≡◌ {A = ℕ} 0 1 = cc in omega arith)
+      go true b p q = cc
       go false true p q = refl
-      go false false p q = absurd (let z : ◌≡◌ {A = ℕ} 0 1 = cc in omega arith)
+      go false false p q = cc
 
   too_narrow : (x : View S) → too_short x ≡ true → ((next_of g f x).answer ≡ Refused 13) × (key_of x ≡ NoPart 13)
   unfolding next_of key_of

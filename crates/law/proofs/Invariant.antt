@@ -2,6 +2,7 @@
 use Rattle.std.proofs.Common.{◌≡◌, ℕ, zero, suc, ◌<◌, ◌≤◌, Bool, true, false, ◌&&◌, T, ◌≢◌, ◌⊎◌, List, [], ◌∷◌, ◌++◌, length, get_or, take, set, sym, refl, ap, ◌∙◌, subst, ap₂, inl, inr, arith, length-set, get_or-set_other, take-suc, get_or-set_same, take-suc-set}
 use native.Mathlib.Decide.{dec_lt, ℕ_discrete}
 use lib.Seq.{take-set-le}
+use Rattle.std.proofs.lemmas.Bool.{and_parts}
 use Rattle.bound.specs.Value.{BoundValue}
 use Rattle.byte_strings.specs.Order.{Bytes, ◌≺◌}
 use Rattle.filter.specs.Filter.{Filter, Lawful as LawfulFilter, run, verdict_at}
@@ -15,13 +16,8 @@ use Rattle.law.specs.Next.{deeper, due, leads_nowhere, root_row}
 use Rattle.bound.proofs.Words.{to_said}
 use Rattle.law.proofs.Order.{upper_down, upper_of, reached_said, none_below}
 use Rattle.law.proofs.Unique.{one_end}
-use Rattle.law.proofs.Order.{of_true}
 use Rattle.law.proofs.Ahead.{Ahead, onto, at_once, back_from, off, off_back, stuck, leads_on, run_on}
 use Rattle.law.proofs.Frame.{Frame, frame_same, frame_hand}
-
-true_and : (a b : Bool) → (a && b) ≡ true → (a ≡ true) × (b ≡ true)
-true_and true b e = (refl, e)
-true_and false b e = absurd (of_true false e)
 
 module _ {S : Type 0} (g : Table) (f : Filter S) where
   abbrev pub row : List (Row S) → ℕ → Row S
@@ -231,10 +227,10 @@ module _ {S : Type 0} (g : Table) (f : Filter S) where
             e = record { key = w ++ (c ∷ []); total = key_total g (deeper g f r); state = (deeper g f r).state }
 
             parts : (is_admitted hi (w ++ (c ∷ [])) ≡ true) × ((g.is_final (deeper g f r).node && verdict_at f (deeper g f r).state) ≡ true)
-            parts = true_and (is_admitted hi (w ++ (c ∷ []))) (g.is_final (deeper g f r).node && verdict_at f (deeper g f r).state) is_due
+            parts = and_parts (is_admitted hi (w ++ (c ∷ []))) (g.is_final (deeper g f r).node && verdict_at f (deeper g f r).state) is_due
 
             more : (g.is_final (deeper g f r).node ≡ true) × (verdict_at f (deeper g f r).state ≡ true)
-            more = true_and (g.is_final (deeper g f r).node) (verdict_at f (deeper g f r).state) parts.1
+            more = and_parts (g.is_final (deeper g f r).node) (verdict_at f (deeper g f r).state) parts.1
 
             belongs : Belongs g f lo hi e
             belongs = record {

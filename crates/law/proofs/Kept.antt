@@ -3,26 +3,17 @@ use Rattle.std.proofs.Common.{◌≡◌, ℕ, ◌+◌, Bool, true, false, cond, 
 use Rattle.bound.specs.Value.{BoundValue}
 use Rattle.bound.specs.Within.{is_within}
 use Rattle.bound.proofs.Words.{within_said, within_test}
-use Rattle.std.proofs.lemmas.Bool.{false≢true}
+use Rattle.std.proofs.lemmas.Bool.{and_from, and_parts}
 use Rattle.byte_strings.specs.Order.{Bytes}
 use Rattle.filter.specs.Filter.{Filter, run, verdict, verdict_at, verdict_by}
-use Rattle.filter.specs.Tables.{union_table, union_state, intersection_table, intersection_state, complement_table, complement_state, always_match_table}
-use Rattle.filter.specs.declared.UnionState.{UnionState}
-use Rattle.filter.specs.declared.IntersectionState.{IntersectionState}
-use Rattle.filter.specs.declared.ComplementState.{ComplementState}
-use Rattle.filter.proofs.Runs.{union_run, intersection_run, complement_run}
+use Rattle.filter.specs.Tables.{pair_state, union_table, intersection_table, complement_table, always_match_table}
+use Rattle.filter.specs.declared.PairState.{PairState}
+use Rattle.filter.proofs.Runs.{pair_run}
 use Rattle.graph.specs.Table.{Lawful, Table}
 use Rattle.law.specs.Entries.{Belongs, Entry, Lists, Rises, ◌∈◌}
 use Rattle.law.specs.Theorems.{GivesNoEndState, Listable}
 use Rattle.law.proofs.Unique.{determined}
 use Rattle.law.proofs.Tree.{E, entry, all_keys, all_rise, all_are_keys, keys_are_all}
-
-both : (a b : Bool) → (a && b) ≡ true → (a ≡ true) × (b ≡ true)
-both true b e = (refl, e)
-both false b e = absurd (false≢true e)
-
-both_true : (a b : Bool) → a ≡ true → b ≡ true → (a && b) ≡ true
-both_true a b p q = rw (p, q)
 
 module _ {S : Type 0} (f : Filter S) where
   abbrev pub restated : E → Entry S
@@ -68,7 +59,7 @@ module _ {S : Type 0} (f : Filter S) where
       where
         forth_at : (e : Entry S) (u : E) → u ∈ all_keys g law → e ≡ restated u → wanted lo hi u.key ≡ true → Belongs g f lo hi e
         forth_at e u m d t =
-            let p = both (is_within lo hi u.key) (verdict f u.key) t in
+            let p = and_parts (is_within lo hi u.key) (verdict f u.key) t in
             subst (λ (x : Entry S). Belongs g f lo hi x) (sym d) (record {
               is_key = all_are_keys g law u m;
               reported = refl;
@@ -82,7 +73,7 @@ module _ {S : Type 0} (f : Filter S) where
         back : (e : Entry S) → Belongs g f lo hi e → e ∈ kept (wanted lo hi) (all_keys g law)
         back e b =
             let u = entry e.key e.total in
-            let w = both_true (is_within lo hi e.key) (verdict f e.key) (within_test lo hi e.key b.within) b.accepted in
+            let w = and_from (is_within lo hi e.key) (verdict f e.key) (within_test lo hi e.key b.within) b.accepted in
             let d : restated u ≡ e = λ i. record { key = e.key; total = e.total; state = sym b.reported i } in
             subst (λ (x : Entry S). x ∈ kept (wanted lo hi) (all_keys g law)) d
             (kept_in (wanted lo hi) (all_keys g law) u (keys_are_all g law e.key e.total b.is_key) w)
@@ -134,7 +125,7 @@ module _ (g : Table) (law : Lawful g) (lo hi : BoundValue) where
   counted f es l = ap length (kept_is f g law lo hi es l) ∙ kept_count f (wanted f lo hi) (all_keys g law)
 
   pub either_both : {A B : Type 0} (f : Filter A) (h : Filter B) → GivesNoEndState f → GivesNoEndState h →
-      (is : List (Entry (UnionState A B))) (js : List (Entry (IntersectionState A B))) (ks : List (Entry A)) (ls : List (Entry B)) →
+      (is js : List (Entry (PairState A B))) (ks : List (Entry A)) (ls : List (Entry B)) →
       Lists g (union_table f h) lo hi is → Lists g (intersection_table f h) lo hi js → Lists g f lo hi ks → Lists g h lo hi ls →
       length is + length js ≡ length ks + length ls
   either_both f h n o is js ks ls a b c d =
@@ -147,10 +138,10 @@ module _ (g : Table) (law : Lawful g) (lo hi : BoundValue) where
     where
       point : (k : Bytes) → unit (wanted (union_table f h) lo hi k) + unit (wanted (intersection_table f h) lo hi k) ≡ unit (wanted f lo hi k) + unit (wanted h lo hi k)
       point k =
-          rw (union_run f h (union_state f.start h.start) k, intersection_run f h (intersection_state f.start h.start) k, endless_verdict f n (run f f.start k), endless_verdict h o (run h h.start k))
+          rw (pair_run ◌||◌ f h (pair_state f.start h.start) k, endless_verdict f n (run f f.start k), endless_verdict h o (run h h.start k))
           (or_and (is_within lo hi k) (f.is_match (run f f.start k)) (h.is_match (run h h.start k)))
 
-  pub complemented : {A : Type 0} (f : Filter A) → GivesNoEndState f → (is : List (Entry A)) (js : List (Entry (ComplementState A))) (ks : List E) →
+  pub complemented : {A : Type 0} (f : Filter A) → GivesNoEndState f → (is js : List (Entry A)) (ks : List E) →
       Lists g f lo hi is → Lists g (complement_table f) lo hi js → Lists g always_match_table lo hi ks → length is + length js ≡ length ks
   complemented f n is js ks a b c =
       let x = counted f is a in
@@ -165,4 +156,4 @@ module _ (g : Table) (law : Lawful g) (lo hi : BoundValue) where
       None (u ∷ us) = let e = None us in omega arith
 
       point : (k : Bytes) → unit (wanted f lo hi k) + unit (wanted (complement_table f) lo hi k) ≡ unit (wanted always_match_table lo hi k) + 0
-      point k = rw (complement_run f (complement_state f.start) k, endless_verdict f n (run f f.start k)) (and_not (is_within lo hi k) (f.is_match (run f f.start k)))
+      point k = rw (endless_verdict f n (run f f.start k)) (and_not (is_within lo hi k) (f.is_match (run f f.start k)))

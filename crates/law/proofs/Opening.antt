@@ -17,16 +17,12 @@ use Rattle.law.specs.Values.{Search, at_position, byte_at, key_total, most, onwa
 use Rattle.law.specs.Next.{deeper, root_row}
 use Rattle.law.proofs.Positions.{rising}
 use Rattle.byte_strings.proofs.Orders.{less_cons, differ, transitive}
-use Rattle.law.proofs.Order.{none_below, lower_of, reached as reached_by, reached_said, of_true}
+use Rattle.law.proofs.Order.{none_below, lower_of, reached as reached_by, reached_said}
 use Rattle.law.proofs.Tree.{behind, not_behind}
 use Rattle.law.proofs.Ahead.{Ahead, split, shorter, through, onto, at_once, back_from, leads_on, run_on}
 use Rattle.law.proofs.Frame.{Frame}
 use Rattle.law.proofs.Invariant.{Reached, Gone, Stands, ToCome, row}
 use Rattle.law.proofs.Walking.{Inv, Pending}
-
-true_and : (a b : Bool) → (a && b) ≡ true → (a ≡ true) × (b ≡ true)
-true_and true b e = (refl, e)
-true_and false b e = absurd (of_true false e)
 
 module _ {S : Type 0} (g : Table) (f : Filter S) where
   -- the first place that passes a test
@@ -61,7 +57,7 @@ module _ {S : Type 0} (g : Table) (f : Filter S) where
     OpenedWell o = (s : Search) → o.outcome ≡ inl s → Inv g f lo hi (record { search = s; rows = o.rows; key_area = o.key_area }) []
 
     refused_well : (n : ℕ) (rows : List (Row S)) (area : Bytes) → OpenedWell (record { outcome = inr n; rows = rows; key_area = area })
-    refused_well n rows area s e = absurd (let z : ◌≡◌ {A = ℕ} 0 1 = cc in omega arith)
+    refused_well n rows area s e = cc
 
     opened_well : (s : Search) (rows : List (Row S)) (area : Bytes) → Inv g f lo hi (record { search = s; rows = rows; key_area = area }) [] →
         OpenedWell (record { outcome = inl s; rows = rows; key_area = area })
@@ -102,8 +98,8 @@ module _ {S : Type 0} (g : Table) (f : Filter S) where
         bound = refl;
         counted = refl;
         frame = subst (λ (P : Bytes → Type 0). Frame g f lo hi P []) (sym top_ahead) (new_frame (Ahead g (take d area) r.node r.position) forth sound);
-        waits = λ t e. absurd (let z : ◌≡◌ {A = ℕ} 0 1 = cc in omega arith);
-        stood = λ e. absurd (let z : ◌≡◌ {A = ℕ} 0 1 = cc in omega arith);
+        waits = λ t e. cc;
+        stood = λ e. cc;
       })
 
     -- a lower bound of the bytes bs, which lets its own bytes in where keep says so
@@ -307,7 +303,7 @@ module _ {S : Type 0} (g : Table) (f : Filter S) where
         counted = refl;
         frame = new_frame (Pending g f lo hi (Some (key_total g r₀)) 1 left area) (λ e b. forth e.key e.key refl) sound;
         waits = λ t e. (refl, refl, fin, cc);
-        stood = λ e. absurd (let z : ◌≡◌ {A = ℕ} 0 1 = cc in omega arith);
+        stood = λ e. cc;
       })
         where
           forth : (x k : Bytes) → x ≡ k → (x ≡ []) ⊎ ToCome g f 1 left area x
@@ -330,29 +326,29 @@ module _ {S : Type 0} (g : Table) (f : Filter S) where
               let path = rw d at x.path in
               let z = ap g.is_final path.0 in
               let y = x.ends in
-              let w : ◌≡◌ {A = ℕ} 0 1 = cc in omega arith
+              cc
       root_well false c p q o = none_waits (λ e b d. dropped (sym p) (subst (λ (k : Bytes). T (is_reached lo k)) d (lower_of b.within)))
 
   module _ (hi : BoundValue) (law : Lawful g) where
     whole_bound : (lo : BoundValue) (rows : List (Row S)) (area : Bytes) → length (bytes_of lo) < length rows → length (bytes_of lo) ≤ length area →
         OpenedWell lo hi law (start_at g f (is_inclusive lo) (bytes_of lo) hi rows area)
     whole_bound unbounded rows area a c =
-        root_well unbounded hi law true rows area (omega arith) (λ k t. tt) (λ e. tt) (λ e t. let z : ◌≡◌ {A = ℕ} 0 1 = cc in omega arith)
+        root_well unbounded hi law true rows area (omega arith) (λ k t. tt) (λ e. tt) (λ e t. cc)
         true (g.is_final g.root) refl refl (ltb most (key_total g (root_row g f)))
     whole_bound (included []) rows area a c =
-        root_well (included []) hi law true rows area (omega arith) (λ k t. reached_by (included []) k (inl t)) (λ e. reached_by (included []) [] (inr refl)) (λ e t. let z : ◌≡◌ {A = ℕ} 0 1 = cc in omega arith)
+        root_well (included []) hi law true rows area (omega arith) (λ k t. reached_by (included []) k (inl t)) (λ e. reached_by (included []) [] (inr refl)) (λ e t. cc)
         true (g.is_final g.root) refl refl (ltb most (key_total g (root_row g f)))
     whole_bound (excluded []) rows area a c =
-        root_well (excluded []) hi law false rows area (omega arith) (λ k t. reached_by (excluded []) k t) (λ e. absurd (let z : ◌≡◌ {A = ℕ} 0 1 = cc in omega arith)) (λ e t. none_below [] (reached_said (excluded []) [] t))
+        root_well (excluded []) hi law false rows area (omega arith) (λ k t. reached_by (excluded []) k t) (λ e. cc) (λ e t. none_below [] (reached_said (excluded []) [] t))
         false (g.is_final g.root) refl refl (ltb most (key_total g (root_row g f)))
     whole_bound (included (b ∷ w)) rows area a c =
         sought (included (b ∷ w)) hi law (b ∷ w) true (λ k t. reached_said (included (b ∷ w)) k t) (λ k t. reached_by (included (b ∷ w)) k (inl t))
-        (λ e k t. absurd (let z : ◌≡◌ {A = ℕ} 0 1 = cc in omega arith)) (λ e. reached_by (included (b ∷ w)) (b ∷ w) (inr refl))
+        (λ e k t. cc) (λ e. reached_by (included (b ∷ w)) (b ∷ w) (inr refl))
         (b ∷ w) 0 (root_row g f) rows area (omega arith)
         (record { reached = λ i h. absurd (omega arith); gone = λ i h. absurd (omega arith) }) (record { leads = (refl, refl); state = refl }) refl refl (omega arith) (omega arith)
     whole_bound (excluded (b ∷ w)) rows area a c =
         sought (excluded (b ∷ w)) hi law (b ∷ w) false (λ k t. inl (reached_said (excluded (b ∷ w)) k t)) (λ k t. reached_by (excluded (b ∷ w)) k t)
-        (λ e k t. reached_said (excluded (b ∷ w)) k t) (λ e. absurd (let z : ◌≡◌ {A = ℕ} 0 1 = cc in omega arith))
+        (λ e k t. reached_said (excluded (b ∷ w)) k t) (λ e. cc)
         (b ∷ w) 0 (root_row g f) rows area (omega arith)
         (record { reached = λ i h. absurd (omega arith); gone = λ i h. absurd (omega arith) }) (record { leads = (refl, refl); state = refl }) refl refl (omega arith) (omega arith)
 

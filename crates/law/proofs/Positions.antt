@@ -31,7 +31,7 @@ inside g law n p x e = go (dec_lt p (g.len n))
   where
     go : Dec (p < g.len n) → p < g.len n
     go (yes h) = h
-    go (no h) = let d = law.absent n p (omega arith) in let z : ◌≡◌ {A = ℕ} 0 1 = cc in absurd (omega arith)
+    go (no h) = let d = law.absent n p (omega arith) in cc
 
 pub by_positions : (g : Table) → Lawful g → (n t : ℕ) (w : Bytes) (m u : ℕ) → Leads g n t w m u → LeadsBy g n t w m u
 by_positions g law n t [] m u l = l

@@ -10,7 +10,7 @@ use Rattle.law.specs.Open.{Opening, from_root, is_inclusive, new_search, open_of
 use Rattle.law.specs.declared.Row.{Row}
 use Rattle.law.specs.Values.{Search, at_position, byte_at, key_total, most, onward, output_at, target_at}
 use Rattle.law.specs.Next.{deeper, root_row}
-use Rattle.law.proofs.Step.{true_and}
+use Rattle.std.proofs.lemmas.Bool.{and_parts}
 use Rattle.law.proofs.Ahead.{leads_on}
 use Rattle.law.proofs.Opening.{first_is}
 
@@ -19,7 +19,7 @@ module _ {S : Type 0} (g : Table) (f : Filter S) (lo hi : BoundValue) (law : Law
   Reasoned o = (n : ℕ) → o.outcome ≡ inr n → OpenReason g lo (length o.rows) (length o.key_area) n
 
   opens : (s : Search) (rows : List (Row S)) (area : Bytes) → Reasoned (record { outcome = inl s; rows = rows; key_area = area })
-  opens s rows area n e = absurd (let z : ◌≡◌ {A = ℕ} 0 1 = cc in omega arith)
+  opens s rows area n e = cc
 
   refuses : (c : ℕ) (rows : List (Row S)) (area : Bytes) → OpenReason g lo (length rows) (length area) c → Reasoned (record { outcome = inr c; rows = rows; key_area = area })
   refuses c rows area r n e = let d : c ≡ n = cc in subst (OpenReason g lo (length rows) (length area)) d r
@@ -55,7 +55,7 @@ module _ {S : Type 0} (g : Table) (f : Filter S) (lo hi : BoundValue) (law : Law
           Reasoned (cond i (cond j (record { outcome = inr 16; rows = set rows 0 (root_row g f); key_area = area }) (record { outcome = inl (new_search hi 1 (Some (key_total g (root_row g f)))); rows = set rows 0 (root_row g f); key_area = area }))
           (record { outcome = inl (new_search hi 1 None); rows = set rows 0 (root_row g f); key_area = area }))
       go true i true j =
-          refuses 16 _ _ (empty_key_too_large (key_total g (root_row g f)) (record { node = g.root; sum = g.first_total; path = (refl, refl); ends = (true_and keep (g.is_final g.root) i).1; whole = refl }) (ltb-true most (key_total g (root_row g f)) j))
+          refuses 16 _ _ (empty_key_too_large (key_total g (root_row g f)) (record { node = g.root; sum = g.first_total; path = (refl, refl); ends = (and_parts keep (g.is_final g.root) i).1; whole = refl }) (ltb-true most (key_total g (root_row g f)) j))
       go true i false j = opens _ _ _
       go false i j k = opens _ _ _
 

@@ -1,6 +1,7 @@
 -- The outcomes of one look at the top row. Assumes nothing.
 use Rattle.std.proofs.Common.{◌≡◌, ℕ, zero, suc, ◌<◌, ◌≤◌, Bool, true, false, cond, not, ◌&&◌, ◌||◌, eqb, ltb, leb, length, get_or, refl, arith, ltb-true, eqb-true, leb-false, leb-true}
 use borrow.Author.Tests.{not-false}
+use Rattle.std.proofs.lemmas.Bool.{and_parts}
 use Rattle.byte_strings.specs.Order.{Bytes}
 use Rattle.filter.specs.Filter.{Filter}
 use Rattle.graph.specs.Table.{Table}
@@ -10,18 +11,14 @@ use Rattle.law.specs.declared.Row.{Row}
 
 -- a move is not both
 pub never : {S : Type 0} {a : Answer S} {x y : View S} → Done a x ≡ More y → ⊥
-never e = let z : ◌≡◌ {A = ℕ} 0 1 = cc in omega arith
+never e = cc
 
 pub more_same : {S : Type 0} {x y : View S} → More x ≡ More y → x ≡ y
 more_same e = cc
 
 neither : (a b : Bool) → (a || b) ≡ false → (a ≡ false) × (b ≡ false)
-neither true b e = absurd (let z : ◌≡◌ {A = ℕ} 0 1 = cc in omega arith)
+neither true b e = cc
 neither false b e = (refl, e)
-
-pub true_and : (a b : Bool) → (a && b) ≡ true → (a ≡ true) × (b ≡ true)
-true_and true b e = (refl, e)
-true_and false b e = absurd (let z : ◌≡◌ {A = ℕ} 0 1 = cc in omega arith)
 
 module _ {S : Type 0} (g : Table) (f : Filter S) where
   -- the step 3 of x at depth d + 1 is not refused
@@ -93,10 +90,10 @@ module _ {S : Type 0} (g : Table) (f : Filter S) where
     from_14 false true c i j p q t u v s = refused 15 d e (bytes_full (present_of s) (leb-true (length x.key_area) d q)) refl
     from_14 false false true i j p q t u v s = refused 16 d e (sum_large (present_of s) (ltb-true most (deeper g f r).total t)) refl
     from_14 false false false true j p q t u v s =
-        let z = true_and (due g f x.search.upper k (deeper g f r)) (ltb most (key_total g (deeper g f r))) u in
+        let z = and_parts (due g f x.search.upper k (deeper g f r)) (ltb most (key_total g (deeper g f r))) u in
         refused 16 d e (total_large (writes_of s p q) z.0 (ltb-true most (key_total g (deeper g f r)) z.1)) refl
     from_14 false false false false true p q t u v s =
-        let z = true_and (due g f x.search.upper k (deeper g f r)) (eqb x.search.count most_keys) v in
+        let z = and_parts (due g f x.search.upper k (deeper g f r)) (eqb x.search.count most_keys) v in
         refused 17 d e (no_count_left (writes_of s p q) z.0 (eqb-true x.search.count most_keys z.1)) refl
     from_14 false false false false false p q t u v s =
         arriving (writes_of s p q) (is_admitted x.search.upper k) (due g f x.search.upper k (deeper g f r)) refl refl

@@ -21,7 +21,7 @@ use Rattle.law.proofs.Frame.{Frame, frame_same, frame_hand, owed}
 use Rattle.law.proofs.Invariant.{Stands, ToCome, row, stands_less, remove, stands_more, exceed, pass, hand}
 
 neither : (a b : Bool) → (a || b) ≡ false → (a ≡ false) × (b ≡ false)
-neither true b e = absurd (let z : ◌≡◌ {A = ℕ} 0 1 = cc in omega arith)
+neither true b e = cc
 neither false b e = (refl, e)
 
 length_one_more : {A : Type 0} (xs : List A) (x : A) → length (xs ++ (x ∷ [])) ≡ suc (length xs)
@@ -56,8 +56,8 @@ module _ {S : Type 0} (g : Table) (f : Filter S) (lo hi : BoundValue) where
     bound = c.bound;
     counted = c.counted;
     frame = subst (λ (o : Option ℕ). Frame g f lo hi (Pending o x.search.depth x.rows x.key_area) es) (sym c.quiet) c.frame;
-    waits = λ t e. absurd (let p = c.quiet in let z : ◌≡◌ {A = ℕ} 0 1 = cc in omega arith);
-    stood = λ e. absurd (let p = c.silent in let z : ◌≡◌ {A = ℕ} 0 1 = cc in omega arith);
+    waits = λ t e. (let p = c.quiet in cc);
+    stood = λ e. (let p = c.silent in cc);
   }
 
   -- e is the entry that comes next after es
@@ -194,7 +194,7 @@ module _ {S : Type 0} (g : Table) (f : Filter S) (lo hi : BoundValue) where
             bound = c.bound;
             counted = omega arith;
             frame = subst (λ (o : Option ℕ). Frame g f lo hi (Pending o (suc (suc d)) y.rows y.key_area) (es ++ (entry ∷ []))) (sym q) fr₂;
-            waits = λ t p. absurd (let z : ◌≡◌ {A = ℕ} 0 1 = cc in omega arith);
+            waits = λ t p. cc;
             stood = λ p. (es, entry, refl, ap (λ (i : ℕ). take i y.key_area) (sym n));
           };
           told = let z : length y.key_area ≡ length x.key_area = length-set x.key_area d (byte_at g (top g f x d).node (top g f x d).position) in let b = w.byte_free in omega arith;
@@ -234,7 +234,7 @@ module _ {S : Type 0} (g : Table) (f : Filter S) (lo hi : BoundValue) where
         counted = i.counted;
         frame = i.frame;
         waits = i.waits;
-        stood = λ e. absurd (let p : ◌≡◌ {A = ℕ} 0 1 = cc in omega arith);
+        stood = λ e. cc;
       }
 
       is_key : Key g [] t
@@ -300,7 +300,7 @@ module _ {S : Type 0} (g : Table) (f : Filter S) (lo hi : BoundValue) where
           bound = i.bound;
           counted = let l = length_one_more es first_entry in let k = i.counted in omega arith;
           frame = first_frame p v;
-          waits = λ u q. absurd (let w : ◌≡◌ {A = ℕ} 0 1 = cc in omega arith);
+          waits = λ u q. cc;
           stood = λ q. (es, first_entry, refl, sym (ap (λ (d : ℕ). take (d - 1) x.key_area) one_deep));
         };
         told = omega arith;
@@ -323,7 +323,7 @@ module _ {S : Type 0} (g : Table) (f : Filter S) (lo hi : BoundValue) where
 
         at_all : (b : Bool) → b ≡ false → (o : Option ℕ) → x.search.waiting ≡ o →
             Good es (cond b (record { answer = Refused 13; left = y }) (begin g f y o)).answer (cond b (record { answer = Refused 13; left = y }) (begin g f y o)).left
-        at_all true e o p = absurd (let w : ◌≡◌ {A = ℕ} 0 1 = cc in omega arith)
+        at_all true e o p = cc
         at_all false e None p = walks_well y es (record {
           stands = i.stands;
           bound = i.bound;

@@ -6,7 +6,7 @@ ghost use Rattle.law.specs.Theorems.{HandedOutIsFront, Determined, Listable, Alw
 ghost use Rattle.law.specs.Theorems.{UnionAndIntersectionCount, ComplementCount, ResumedListsTheRest, CanBeExhausted};
 
 /// A row of the stack: a node on the way, where to go on from it, the total so far and the state of the filter.
-#[derive(Clone, Copy)]
+#[derive(Clone, Copy, Debug, PartialEq, Eq)]
 pub struct Row<S> {
     pub node: u32,
     pub position: usize,
@@ -15,64 +15,46 @@ pub struct Row<S> {
 }
 
 /// Theorem: what a search has handed out is the front of its list, and the next answer is the next entry.
-pub fn handed_out_is_front_of_list<S>() -> u8
+pub fn handed_out_is_front_of_list<S>()
     ensures { HandedOutIsFront S }
-{
-    0
-}
+{}
 
 /// Theorem: graph, filter and bounds have one list only.
-pub fn list_is_determined<S>() -> u8
+pub fn list_is_determined<S>()
     ensures { Determined S }
-{
-    0
-}
+{}
 
 /// Theorem: every lawful graph has a list, whatever the filter and the bounds.
-pub fn every_lawful_graph_has_a_list<S>() -> u8
+pub fn every_lawful_graph_has_a_list<S>()
     ensures { Listable S }
-{
-    0
-}
+{}
 
 /// Theorem: the looks that a call of `next` takes are bounded, whatever the search and the areas hold.
-pub fn looks_are_bounded<S>() -> u8
+pub fn looks_are_bounded<S>()
     ensures { AlwaysBounded S }
-{
-    0
-}
+{}
 
 /// Theorem: an exhausted search has handed out the whole list, and counted it.
-pub fn exhausted_search_lists_all<S>() -> u8
+pub fn exhausted_search_lists_all<S>()
     ensures { ExhaustedListsAll S }
-{
-    0
-}
+{}
 
 /// Theorem: with areas that suffice and totals and a count that fit, every history can be gone on to the end.
-pub fn search_can_be_exhausted<S>() -> u8
+pub fn search_can_be_exhausted<S>()
     ensures { CanBeExhausted S }
-{
-    0
-}
+{}
 
 /// Theorem: union and intersection of two filters without end states count as many as the two.
-pub fn union_and_intersection_count<A, B>() -> u8
+pub fn union_and_intersection_count<A, B>()
     ensures { UnionAndIntersectionCount A B }
-{
-    0
-}
+{}
 
 /// Theorem: a filter without end states and its complement count as many as the unfiltered search.
-pub fn complement_count<A>() -> u8
+pub fn complement_count<A>()
     ensures { ComplementCount A }
-{
-    0
-}
+{}
 
 /// Theorem: a search above a handed-out key hands out exactly the rest.
-pub fn resumed_search_lists_the_rest<S>() -> u8
+pub fn resumed_search_lists_the_rest<S>()
     ensures { ResumedListsTheRest S }
-{
-    0
-}
+{}

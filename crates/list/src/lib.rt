@@ -3,6 +3,7 @@
 
 mod list;
 mod opening;
+mod prefix;
 mod questions;
 mod walk;
 

@@ -1,178 +1,164 @@
 //! The walk over the transitions of a node, from one group of names to the next.
-ghost use Rattle.std.specs.Prelude.{◌≡◌, ◌+◌, ◌-◌, ◌/◌, ◌%◌, ◌<◌, ◌≤◌, true, not, [], length, take, if◌then◌else◌, MatchOption, ◌≢◌, nat_eq, nat_lt};
+ghost use Rattle.std.specs.Prelude.{◌≡◌, ◌-◌, ◌<◌, ◌≤◌, ◌==◌, true, false, not, length, if◌then◌else◌, nat_le};
+ghost use Rattle.std.specs.Iterator.{YieldsFirst, item_count};
+ghost use Rattle.std.specs.List.{position, take_while};
+ghost use Rattle.std.specs.Option.{option_map};
 ghost use Rattle.byte_strings.specs.Order.{begins};
-ghost use Rattle.prefixes.specs.Prefixes.{name_at, has_prefix, is_node, node_bytes};
-ghost use Rattle.prefixes.specs.Walks.{byte_at, transition_at, Group};
+ghost use Rattle.prefixes.specs.Prefixes.{name_at, prefix_table};
+ghost use Rattle.prefixes.specs.Walks.{node_prefix, Group, Stands, Lists};
 ghost use Rattle.list.specs.Opened.{names_in};
-ghost use Rattle.list.specs.Walked.{StandsOn, StaysBelow};
 
 use crate::list::List;
+use crate::prefix::Prefix;
 use byte_strings::starts_with;
 use graph::Transition;
 
-/// A walk stands at the lowest name of the transition at its position, or at the end of the names that begin with the node's prefix.
-#[derive(Clone, Copy)]
-pub(crate) struct Walk {
-    pub(crate) position: usize,
-    pub(crate) at: usize,
-    pub(crate) end: usize,
+/// How many names a search for the end of a group goes over, unless the group is longer.
+const NEAR: usize = 16;
+
+/// The transitions of a node that are left: each is that of a group of names which go on from its prefix by one byte.
+/// The walk stands at the lowest name of the next group, or at the end of the names that begin with the prefix.
+#[derive(Drop)]
+pub(crate) struct Walk<'a> {
+    list: &'a List,
+    prefix: &'a [u8],
+    at: usize,
+    end: usize,
+    // truncated: more than one floor may tell where a walk stands
+    ghost stands: { at < end → ∥ Stands (names_in list.now) prefix.now at end ∥₁ },
 }
 
 impl List {
+    ghost use Rattle.list.specs.Walked.{left_of};
+
     /// The name of a number, and the empty string where there is none.
+    // no `Option`: the definitions take a name that is not there for the empty one
+    #[tactic(auto, using(crate::proofs::Rows::name_or_nothing))]
     fn name_or_empty(&self, i: usize) -> &[u8]
         ensures { result.now ≡ name_at (names_in self.now) i }
     {
-        match self.name(i) {
-            Some(name) => name,
-            None => b"",
+        self.name(i).unwrap_or(b"")
+    }
+
+    /// Whether a prefix is the whole name.
+    pub(crate) fn is_whole(&self, prefix: Prefix) -> bool
+        ensures { result ≡ (prefix.len == length (name_at (names_in self.now) prefix.name)) }
+    {
+        prefix.len == self.name_or_empty(prefix.name).len()
+    }
+
+    /// Whether no name below name `i` begins with a prefix of name `i`. Names that begin alike stand together, so the one before tells.
+    fn is_lowest(&self, prefix: &[u8], i: usize) -> bool
+        ensures { result ≡ (if i == 0 then true else not (begins prefix.now (name_at (names_in self.now) (i - 1)))) }
+    {
+        i == 0 || !starts_with(prefix, self.name_or_empty(i - 1))
+    }
+
+    /// The prefix that a node stands for, or none where the number is no node: no name has it, or a lower one than the node's.
+    pub(crate) fn prefix(&self, node: u32) -> Option<&[u8]>
+        ensures { option_map (λ x. x.now) result ≡ node_prefix (names_in self.now) node }
+    {
+        let Prefix { name, len } = node.into();
+        let prefix = self.name(name)?.get(..len)?;
+        self.is_lowest(prefix, name).then_some(prefix)
+    }
+
+    /// A number up to `to` at which the names from `from` on no longer begin with a prefix, or `to`.
+    fn group_bound(&self, prefix: &[u8], from: usize, to: usize) -> usize
+        requires there { from < to }
+        requires within { to ≤ length (names_in self.now) }
+        ensures there { from < result }
+        ensures within { result ≤ to }
+        ensures stop { result < to → begins prefix.now (name_at (names_in self.now) result) ≡ false }
+    {
+        // Most groups are short, and the name behind a few tells.
+        let near = to.min(from + NEAR);
+        if near < to && starts_with(prefix, self.name_or_empty(near)) {
+            to
+        } else {
+            near
         }
     }
 
-    /// Byte `d` of a name, and 0 beyond its end.
-    pub(crate) fn byte(&self, i: usize, d: usize) -> u8
-        ensures { result ≡ byte_at (names_in self.now) i d }
+    /// The number after the last of the names from `from` to `to` that begin with a prefix, as name `from` does.
+    fn group_end(&self, prefix: &[u8], from: usize, to: usize) -> usize
+        requires there { from < to }
+        requires within { to ≤ length (names_in self.now) }
+        requires begun { begins prefix.now (name_at (names_in self.now) from) ≡ true }
+        ensures { Group (names_in self.now) prefix.now from to result }
     {
-        let name = self.name_or_empty(i);
-        if d < name.len() { name[d] } else { 0 }
-    }
-
-    /// The length of a name, and 0 where there is none.
-    pub(crate) fn name_len(&self, i: usize) -> usize
-        ensures { result ≡ length (name_at (names_in self.now) i) }
-    {
-        self.name_or_empty(i).len()
-    }
-
-    /// The first `d` bytes of a name.
-    fn prefix(&self, i: usize, d: usize) -> &[u8]
-        requires { d ≤ length (name_at (names_in self.now) i) }
-        ensures { result.now ≡ take d (name_at (names_in self.now) i) }
-    {
-        &self.name_or_empty(i)[0..d]
-    }
-
-    /// Whether there is a name `i`, of `d` bytes or more.
-    fn has_prefix(&self, i: usize, d: usize) -> bool
-        ensures { result ≡ has_prefix (names_in self.now) i d }
-    {
-        i < self.count() && d <= self.name_len(i)
-    }
-
-    /// Whether the name before does not begin with the first `d` bytes of name `i`; then no lower name does.
-    fn is_lowest(&self, i: usize, d: usize) -> bool
-        requires { d ≤ length (name_at (names_in self.now) i) }
-        ensures { result ≡ (if nat_eq i 0 then true else not (begins (take d (name_at (names_in self.now) i)) (name_at (names_in self.now) (i - 1)))) }
-    {
-        if i == 0 {
-            return true;
-        }
-        !starts_with(self.prefix(i, d), self.name_or_empty(i - 1))
-    }
-
-    /// Whether a number is a node: a prefix of the lowest name that begins with it.
-    pub(crate) fn is_node(&self, node: u32) -> bool
-        ensures { result ≡ is_node (names_in self.now) node }
-    {
-        let i = (node / 256) as usize;
-        let d = (node % 256) as usize;
-        self.has_prefix(i, d) && self.is_lowest(i, d)
-    }
-
-    /// The number after the last name that begins with a prefix of name `i`, by halving.
-    fn group_end(&self, prefix: &[u8], i: usize) -> usize
-        requires there { i < length (names_in self.now) }
-        requires begun { begins prefix.now (name_at (names_in self.now) i) ≡ true }
-        ensures { Group (names_in self.now) prefix.now i result }
-    {
-        let mut low = i;
-        let mut high = self.count();
-        while high - low > 1 {
-            let middle = low + (high - low) / 2;
-            if starts_with(prefix, self.name_or_empty(middle)) {
-                low = middle;
-            } else {
-                high = middle;
-            }
-        }
-        high
-    }
-
-    /// The first name from `at` to `end` whose byte `d` is not that of name `at`, by halving, or `end`.
-    fn byte_end(&self, at: usize, end: usize, d: usize) -> usize
-        requires { at < end }
-        ensures within { (at < result) × (result ≤ end) }
-        ensures same { byte_at (names_in self.now) (result - 1) d ≡ byte_at (names_in self.now) at d }
-        ensures other { result < end → byte_at (names_in self.now) result d ≢ byte_at (names_in self.now) at d }
-    {
-        let byte = self.byte(at, d);
-        let mut low = at;
-        let mut high = end;
-        while high - low > 1 {
-            let middle = low + (high - low) / 2;
-            if self.byte(middle, d) == byte {
-                low = middle;
-            } else {
-                high = middle;
-            }
-        }
-        high
-    }
-
-    /// The first name that goes on from the first `d` bytes of name `i`: itself, unless it ends there.
-    fn first_longer(&self, i: usize, d: usize) -> usize
-        requires { i < 65536 }
-        ensures { result ≡ (if nat_lt d (length (name_at (names_in self.now) i)) then i else i + 1) }
-    {
-        if d < self.name_len(i) { i } else { i + 1 }
-    }
-
-    /// A walk at the first transition of a node, or none where the number is no node.
-    pub(crate) fn walk(&self, node: u32) -> Option<Walk>
-        ensures { MatchOption result (node_bytes (names_in self.now) node ≡ []) (λ w. (w.position ≡ 0) × StandsOn self.now node w) }
-    {
-        if !self.is_node(node) {
-            return None;
-        }
-        let i = (node / 256) as usize;
-        let d = (node % 256) as usize;
-        let end = self.group_end(self.prefix(i, d), i);
-        let at = self.first_longer(i, d);
-        Some(Walk {
-            position: 0,
-            at,
-            end,
+        let bound = self.group_bound(prefix, from, to);
+        from + self.rows()[from..bound].partition_point(|row| {
+            row.bytes(self.text())
+                .is_some_and(|name| starts_with(prefix, name))
         })
     }
 
-    /// The walk at the next transition.
-    pub(crate) fn next(&self, node: u32, walk: Walk) -> Walk
-        requires stands { StandsOn self.now node walk }
-        requires before_end { walk.at < walk.end }
-        ensures stands { StandsOn self.now node result }
-        ensures position { result.position ≡ walk.position + 1 }
-        ensures at { walk.at < result.at }
-        ensures end { result.end ≡ walk.end }
-        ensures below { StaysBelow self.now node walk result }
+    /// A walk at the first transition of a node, and one that is over where the number is no node.
+    pub(crate) fn walk(&self, node: u32) -> Walk<'_>
+        ensures { Lists (prefix_table (names_in self.now)) node (left_of result) }
     {
-        let at = self.byte_end(walk.at, walk.end, (node % 256) as usize);
+        let Some(prefix) = self.prefix(node) else {
+            // a walk that is over, so that a number that is no node has no transitions
+            return Walk {
+                list: self,
+                prefix: b"",
+                at: 0,
+                end: 0,
+            };
+        };
+        let first = Prefix::from(node);
         Walk {
-            position: walk.position + 1,
-            at,
-            end: walk.end,
+            list: self,
+            prefix,
+            // A name that ends with the prefix goes on by no byte.
+            at: first.name + usize::from(self.is_whole(first)),
+            end: self.group_end(prefix, first.name, self.count()),
         }
     }
+}
 
-    /// The transition by byte `d` of name `at`, the lowest that begins with its bytes up to there.
-    pub(crate) fn transition_at(&self, at: usize, d: usize) -> Transition
-        requires low { at < 65536 }
-        requires short { d < 255 }
-        ensures { result ≡ transition_at (names_in self.now) at d }
+/// Whether the byte of a transition is not above a byte.
+fn not_above(transition: &Transition, byte: u8) -> bool
+    ensures { result ≡ nat_le transition.now.byte byte }
+{
+    transition.byte <= byte
+}
+
+impl<'a> Walk<'a> {
+    ghost use Rattle.list.specs.Walked.{left_of};
+
+    /// The position of the transition with a byte, or none. The bytes rise, so a greater one ends the search.
+    pub(crate) fn position_of(self, byte: u8) -> Option<usize>
+        requires { length (left_of self) ≤ 256 }
+        ensures { result ≡ position (λ t. t.byte == byte) (take_while (λ t. nat_le t.byte byte) (left_of self.entry)) }
     {
-        Transition {
-            byte: self.byte(at, d),
-            output: 0,
-            target: (256 * at + d + 1) as u32,
+        self.take_while(|transition| not_above(transition, byte))
+            .position(|transition| transition.byte == byte)
+    }
+}
+
+impl<'a> Iterator for Walk<'a> {
+    type Item = Transition;
+
+    ghost use Rattle.list.specs.Walked.{left_of};
+
+    ghost next_gives = { YieldsFirst left_of };
+
+    ghost remaining = { item_count left_of };
+
+    fn next(&mut self) -> Option<Transition> {
+        if self.at >= self.end {
+            return None;
         }
+        let lowest = self.at;
+        let name = self.list.name_or_empty(lowest);
+        let len = self.prefix.len();
+        self.at = self.list.group_end(&name[..=len], lowest, self.end);
+        Some(Transition {
+            byte: name[len],
+            output: 0,
+            target: Prefix { name: lowest, len }.longer().into(),
+        })
     }
 }

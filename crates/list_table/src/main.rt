@@ -23,6 +23,7 @@ fn total<G: Graph>(graph: &G, key: &[u8]) -> Option<u64> {
     }
 }
 
+// the handle beside what is shown, as the library hands it to whatever prints
 fn show_total<G: Graph>(rt: &HostRuntime, graph: &G, key: &str) -> io::Result<()> {
     match total(graph, key.as_bytes()) {
         Some(total) => println!(rt; "key \"{key}\": {total}"),
@@ -30,6 +31,7 @@ fn show_total<G: Graph>(rt: &HostRuntime, graph: &G, key: &str) -> io::Result<()
     }
 }
 
+// printed here: a `Display` would be public in another crate for this program alone
 fn show_transition(rt: &HostRuntime, transition: Transition) -> io::Result<()> {
     let Transition {
         byte,
@@ -48,14 +50,14 @@ fn show_node<G: Graph>(rt: &HostRuntime, graph: &G, node: u32) -> io::Result<()>
     let output = graph.final_output(node);
     let len = graph.len(node);
     println!(rt; "node {node}: {word}, {output}, transitions {len}")?;
-    for position in 0..len {
-        if let Some(transition) = graph.transition(node, position) {
-            show_transition(rt, transition)?;
-        }
+    // by position, as a graph answers
+    for transition in (0..len).filter_map(|position| graph.transition(node, position)) {
+        show_transition(rt, transition)?;
     }
     Ok(())
 }
 
+// printed here, as a transition is
 fn show_refusal(rt: &HostRuntime, refusal: Refusal) -> io::Result<()> {
     match refusal.carried() {
         Some(name) => println!(rt; "refused {} at name {name}", refusal.number()),

@@ -1,13 +1,12 @@
 -- The first refusal, one name at a time. Assumes nothing.
-use Rattle.std.proofs.Common.{◌≡◌, ℕ, ◌+◌, ◌-◌, ◌<◌, ◌≤◌, Bool, true, false, cond, leb, List, ◌∷◌, length, get_or, drop, Some, None, Option, sym, refl, ap, ◌∙◌, arith}
+use Rattle.std.proofs.Common.{◌≡◌, ℕ, ◌+◌, ◌-◌, ◌<◌, ◌≤◌, List, ◌∷◌, length, get_or, drop, Some, None, Option, sym, refl, ap, ◌∙◌, arith}
 use Rattle.std.proofs.lemmas.List.{drop_all, drop_more}
 use Rattle.std.proofs.lemmas.Bool.{le-leb, ne_eqb, cond-true, cond-false}
 use Rattle.byte_strings.specs.Order.{Bytes}
 use Rattle.names.specs.declared.name.Name.{Name}
 use Rattle.names.specs.declared.refusal.Refusal.{Refusal}
-use Rattle.names.specs.declared.refusal.Refusal.TheVariants.{NameOutOfRange, NotRising}
-use Rattle.names.specs.Names.{cut, blank, before, is_inside}
-use Rattle.names.specs.Refusals.{is_above, refusal_at, or_else, refusal_from, refusal_of}
+use Rattle.names.specs.Names.{cut, blank, before}
+use Rattle.names.specs.Refusals.{refusal_at, or_else, refusal_from, refusal_of}
 
 module _ (text : Bytes) (rows : List Name) where
   -- the refusal of name number i
@@ -49,13 +48,13 @@ module _ (text : Bytes) (rows : List Name) where
   pub counted_first : 1 ≤ length rows → length rows ≤ 65536 → refusal_of text rows ≡ first 0
   counted_first a b = cond-true _ _ _ (cond-true _ _ _ (le-leb 1 (length rows) a) ∙ le-leb (length rows) 65536 b)
 
-  -- a name without a refusal of its own is inside the text
-  pub inside_next : (i : ℕ) → None ≡ own i → is_inside text (get_or rows (i + 1 - 1) blank) ≡ true
-  inside_next i p = go (leb (get_or rows i blank).length 255) (is_inside text (get_or rows i blank)) refl refl p
-    where
-      go : (u v : Bool) → leb (get_or rows i blank).length 255 ≡ u → is_inside text (get_or rows i blank) ≡ v
-          → None ≡ cond (cond u v false) (cond (is_above (before text rows i) (cut text (get_or rows i blank))) None (Some (NotRising i))) (Some (NameOutOfRange i))
-          → is_inside text (get_or rows (i + 1 - 1) blank) ≡ true
-      go true true e f p = let k : i + 1 - 1 ≡ i = omega arith in ap (λ m. is_inside text (get_or rows m blank)) k ∙ f
-      go true false e f p = absurd (let z : ◌≡◌ {A = ℕ} 0 1 = cc in omega arith)
-      go false v e f p = absurd (let z : ◌≡◌ {A = ℕ} 0 1 = cc in omega arith)
+  -- a scan that has passed all names before number i: b are the bytes of the last
+  module _ (i : ℕ) (b : Option Bytes) (last : b ≡ before text rows i) (passed : first 0 ≡ first i) where
+    pub refused_next : (e : Refusal) → i < length rows → length rows ≤ 65536 → Some e ≡ refusal_at text b i (get_or rows i blank) → refusal_of text rows ≡ Some e
+    refused_next e h k p =
+        counted_first (omega arith) k ∙ passed ∙ first_here i e h (p ∙ ap (λ o. refusal_at text o i (get_or rows i blank)) last)
+
+    pub passed_next : (k : Bytes) → i < length rows → None ≡ refusal_at text b i (get_or rows i blank) → k ≡ cut text (get_or rows i blank)
+        → (Some k ≡ before text rows (i + 1)) × (first 0 ≡ first (i + 1))
+    passed_next k h p e =
+        (ap Some e ∙ sym (before_next i), passed ∙ first_next i h (p ∙ ap (λ o. refusal_at text o i (get_or rows i blank)) last))

@@ -1,7 +1,9 @@
 -- A list is accepted exactly where it is rising, and refused exactly as each refusal says. Assumes nothing.
-use Rattle.std.proofs.Common.{◌≡◌, ℕ, zero, suc, ◌+◌, ◌-◌, ◌<◌, ◌≤◌, Bool, true, false, cond, eqb, leb, ◌⊎◌, List, length, Some, None, Option, Ordering, Less, Equal, Greater, sym, refl, ap, ◌∙◌, subst, inl, inr, arith}
-use Rattle.std.proofs.lemmas.Bool.{leb-true, le-leb, lt-leb, eqb-true, eqb-false, cond-true, cond-false, false≢true, cases_lt}
+use Rattle.std.proofs.Common.{◌≡◌, ℕ, zero, suc, ◌+◌, ◌-◌, ◌<◌, ◌≤◌, Bool, true, false, cond, eqb, leb, ◌⊎◌, ◌↔◌, List, length, is_ok, Some, None, Ok, Err, Option, Result, Ordering, Less, sym, refl, ap, ◌∙◌, subst, inl, inr, arith}
+use Rattle.std.proofs.lemmas.Bool.{leb-true, le-leb, lt-leb, eqb-true, cond-true, cond-false, false≢true, cases_lt}
+use Rattle.std.proofs.lemmas.Bool.Decides.{nat_tests}
 use Rattle.std.specs.Ordering.{is_lt}
+use Rattle.std.specs.Result.{result_err}
 use Rattle.byte_strings.specs.Order.{Bytes, order, ◌≺◌}
 use Rattle.names.specs.declared.name.Name.{Name}
 use Rattle.names.specs.declared.refusal.Refusal.{Refusal}
@@ -12,7 +14,7 @@ use Rattle.names.specs.Rising.{row, name, InRange, Good, Rising, Reached, Refuse
 use Rattle.names.proofs.First.{own, first, first_past, first_here, first_next, counted_first}
 
 never : {P : Type 0} (e : Refusal) → None ≡ Some e → P
-never e p = absurd (let z : ◌≡◌ {A = ℕ} 0 1 = cc in omega arith)
+never e p = cc
 
 module _ (text : Bytes) (rows : List Name) where
   range_since : (r : Name) → is_in_range text r ≡ true → InRange text r
@@ -26,9 +28,7 @@ module _ (text : Bytes) (rows : List Name) where
   range_test r h = cond-true _ _ _ (le-leb _ _ h.short) ∙ le-leb _ _ h.inside
 
   less_since : (o : Ordering) → is_lt o ≡ true → o ≡ Less
-  less_since Less h = refl
-  less_since Equal h = absurd (false≢true h)
-  less_since Greater h = absurd (false≢true h)
+  less_since o h = grind (arith, nat_tests)
 
   -- what one name is answered
   data Outcome (i : ℕ) : Option Refusal → Type 0 where
@@ -45,11 +45,7 @@ module _ (text : Bytes) (rows : List Name) where
 
       go : (u : Bool) → eqb i 0 ≡ u → Outcome i (cond (is_above (cond u None (Some (name text rows (i - 1)))) (name text rows i)) None (Some (NotRising i)))
       go true e = is_good (record { in_range = h; above = λ p. absurd (let z = eqb-true i 0 e in omega arith) })
-      go false e = turn (is_lt (order (name text rows (i - 1)) (name text rows i))) refl (let n = eqb-false i 0 e in positive i n)
-        where
-          positive : (k : ℕ) → (k ≡ 0 → ⊥) → 0 < k
-          positive zero n = absurd (n refl)
-          positive (suc k) n = omega arith
+      go false e = turn (is_lt (order (name text rows (i - 1)) (name text rows i))) refl (grind (arith, nat_tests))
 
   outcome : (i : ℕ) → Outcome i (own text rows i)
   outcome i = go (is_in_range text (row rows i)) refl
@@ -163,3 +159,12 @@ module _ (text : Bytes) (rows : List Name) where
       go : Scanned 0 (first text rows 0) → refusal_of text rows ≡ None
       go (no_refusal q each) = counted_first text rows (let a = g.some in omega arith) g.few ∙ q
       go (refusal k e a b q r each) = never e (sym (good_own k (g.good k b)) ∙ q)
+
+-- an answer that fails exactly with the refusal succeeds exactly where the list is rising, and fails exactly as each refusal says
+module _ {T : Type 0} (text : Bytes) (rows : List Name) where
+  pub accepted_in_words : (r : Result T Refusal) → result_err r ≡ refusal_of text rows → (is_ok r ≡ true) ↔ Rising text rows
+  accepted_in_words (Ok x) e = (λ _. accepted_rising text rows (sym e), λ _. refl)
+  accepted_in_words (Err x) e = (λ h. absurd (false≢true h), λ s. never x (sym (e ∙ rising_accepted text rows s)))
+
+  pub refused_in_words : (r : Result T Refusal) → result_err r ≡ refusal_of text rows → (e : Refusal) → (result_err r ≡ Some e) ↔ Refused text rows e
+  refused_in_words r p e = (λ h. answer_refused text rows e (sym p ∙ h), λ h. p ∙ refused_answer text rows e h)

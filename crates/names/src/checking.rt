@@ -1,70 +1,48 @@
 //! Whether text and rows are a list of names.
-ghost use Rattle.std.specs.Prelude.{◌≡◌, ℕ, ◌-◌, ◌<◌, true, ◌↔◌, length, Some, None, slice_index_or};
+ghost use Rattle.std.specs.Prelude.{◌≡◌, true, ◌↔◌, is_ok, IfOk, Some};
+ghost use Rattle.std.specs.Option.{option_map};
+ghost use Rattle.std.specs.Result.{result_err};
 ghost use Rattle.names.specs.declared.refusal.Refusal.{Refusal as Reason};
-ghost use Rattle.names.specs.Names.{blank, before, cut, is_inside};
-ghost use Rattle.names.specs.Refusals.{is_in_range, is_above, refusal_at, refusal_of};
+ghost use Rattle.names.specs.Names.{cut};
+ghost use Rattle.names.specs.Refusals.{refusal_at, refusal_of};
 ghost use Rattle.names.specs.Rising.{Rising, Refused};
 
-use crate::name::{Name, cut_out};
+use crate::name::Name;
 use crate::refusal::Refusal;
 use byte_strings::compare;
 
-/// Whether a name has at most 255 bytes and lies inside the text.
-fn is_in_range(text: &[u8], row: Name) -> bool
-    ensures { result ≡ is_in_range text.now row }
+/// The bytes of name number `i`, or why they can't stand behind those of the name before, if there is one.
+fn next_name<'t>(
+    text: &'t [u8],
+    before: Option<&[u8]>,
+    i: u32,
+    row: Name,
+) -> Result<&'t [u8], Refusal>
+    ensures answer { result_err result ≡ refusal_at text.now (option_map (λ x. x.now) before.entry) i row }
+    ensures bytes { IfOk result (λ k. k.now ≡ cut text.now row) }
 {
-    row.length <= 255 && row.place as usize + row.length as usize <= text.len()
+    let name = row
+        .bytes(text)
+        .filter(|name| name.len() <= 255)
+        .ok_or(Refusal::NameOutOfRange(i))?;
+    match before {
+        Some(before) if compare(before, name).is_ge() => Err(Refusal::NotRising(i)),
+        _ => Ok(name),
+    }
 }
 
-/// Whether name number `i`, inside the text like the one before, stands above that one, if there is one.
-fn is_above_last(text: &[u8], rows: &[Name], i: usize) -> bool
-    requires there { i < length rows.now }
-    requires inside { is_inside text.now (slice_index_or rows.now i blank) ≡ true }
-    requires inside_before { 0 < i → is_inside text.now (slice_index_or rows.now (i - 1) blank) ≡ true }
-    ensures { result ≡ is_above (before text.now rows.now i) (cut text.now (slice_index_or rows.now i blank)) }
+/// Whether text and rows are a list of names, and where they are none, the refusal of the first name that has one.
+pub fn check(text: &[u8], rows: &[Name]) -> Result<(), Refusal>
+    ensures answer { result_err result ≡ refusal_of text.now rows.now }
+    ensures accepted { (is_ok result ≡ true) ↔ Rising text.now rows.now }
+    ensures refused { (e : Reason) → (result_err result ≡ Some e) ↔ Refused text.now rows.now e }
 {
-    if i == 0 {
-        return true;
+    if rows.is_empty() || rows.len() > 65536 {
+        return Err(Refusal::CountOutOfRange);
     }
-    compare(cut_out(text, rows[i - 1]), cut_out(text, rows[i])).is_lt()
-}
-
-/// The refusal of one name, where the one before is in range.
-fn refusal_at(text: &[u8], rows: &[Name], i: usize) -> Option<Refusal>
-    requires there { i < length rows.now }
-    requires few { i < 65536 }
-    requires inside_before { 0 < i → is_inside text.now (slice_index_or rows.now (i - 1) blank) ≡ true }
-    ensures { result ≡ refusal_at text.now (before text.now rows.now i) i (slice_index_or rows.now i blank) }
-{
-    if !is_in_range(text, rows[i]) {
-        return Some(Refusal::NameOutOfRange(i as u32));
+    let mut before = None;
+    for (i, row) in rows.iter().enumerate() {
+        before = Some(next_name(text, before, i as u32, *row)?);
     }
-    if !is_above_last(text, rows, i) {
-        return Some(Refusal::NotRising(i as u32));
-    }
-    None
-}
-
-/// The first refusal, by the definition.
-fn first_refusal(text: &[u8], rows: &[Name]) -> Option<Refusal>
-    ensures { result ≡ refusal_of text.now rows.now }
-{
-    if rows.len() == 0 || rows.len() > 65536 {
-        return Some(Refusal::CountOutOfRange);
-    }
-    for i in 0..rows.len() {
-        if let Some(refusal) = refusal_at(text, rows, i) {
-            return Some(refusal);
-        }
-    }
-    None
-}
-
-/// What keeps text and rows from being a list of names, name by name, or none where they are one.
-pub fn check(text: &[u8], rows: &[Name]) -> Option<Refusal>
-    ensures answer { result ≡ refusal_of text.now rows.now }
-    ensures accepted { (result ≡ None) ↔ Rising text.now rows.now }
-    ensures refused { (e : Reason) → (result ≡ Some e) ↔ Refused text.now rows.now e }
-{
-    first_refusal(text, rows)
+    Ok(())
 }

@@ -3,7 +3,7 @@ ghost use Rattle.std.specs.Prelude.{◌≡◌};
 ghost use Rattle.names.specs.Numbers.{number_of, carried_by};
 
 /// What keeps text and rows from being a list; a name is given by its number, counted from 0.
-#[derive(Clone, Copy)]
+#[derive(Clone, Copy, Debug, PartialEq, Eq)]
 pub enum Refusal {
     /// There is no name, or there are more than 65,536.
     CountOutOfRange,
@@ -18,6 +18,7 @@ impl Refusal {
     pub fn number(self) -> u8
         ensures { result ≡ number_of self }
     {
+        // no cast: two of the cases carry a name's number
         match self {
             Refusal::CountOutOfRange => 9,
             Refusal::NameOutOfRange(_) => 10,
@@ -31,8 +32,7 @@ impl Refusal {
     {
         match self {
             Refusal::CountOutOfRange => None,
-            Refusal::NameOutOfRange(name) => Some(name),
-            Refusal::NotRising(name) => Some(name),
+            Refusal::NameOutOfRange(name) | Refusal::NotRising(name) => Some(name),
         }
     }
 }

@@ -8,34 +8,13 @@ use std::alloc::{AllocError, Global};
 pub(crate) struct Account {
     pub(crate) heap: Global,
     pub(crate) text: String,
-    /// Whether memory was wanting, so that some of the text is missing.
-    pub(crate) is_short: bool,
+    // an array: the numbers 0 to 8, known beforehand
     counts: [u32; 9],
 }
 
 /// The sum of a total and an output, or none above 2^64 − 1.
 fn sum(total: Option<u64>, output: u64) -> Option<u64> {
-    match total {
-        Some(before) => before.checked_add(output),
-        None => None,
-    }
-}
-
-/// Whether checking a file told the same as opening it.
-fn is_alike(checked: Option<Refusal>, number: u8, node: u32) -> bool {
-    match checked {
-        Some(refusal) => refusal.number() == number && refusal.node() == node,
-        None => number == 0,
-    }
-}
-
-fn digit(value: u8) -> char {
-    let value = value % 16;
-    if value < 10 {
-        char::from(b'0' + value)
-    } else {
-        char::from(b'a' + (value - 10))
-    }
+    total.and_then(|before| before.checked_add(output))
 }
 
 impl Account {
@@ -43,146 +22,118 @@ impl Account {
         Account {
             heap,
             text: String::new(heap),
-            is_short: false,
             counts: [0; 9],
         }
     }
 
-    pub(crate) fn words(&mut self, words: &str) {
-        if self.text.push_str(words).is_err() {
-            self.is_short = true;
-        }
-    }
-
-    /// A number, and the words after it.
-    pub(crate) fn number(&mut self, number: u64, words: &str) {
-        match number.to_string(self.heap) {
-            Ok(digits) => self.words(digits.as_str()),
-            Err(_) => self.is_short = true,
-        }
-        self.words(words);
-    }
-
-    fn sign(&mut self, sign: char) {
-        if self.text.push(sign).is_err() {
-            self.is_short = true;
-        }
-    }
-
-    /// Bytes by two digits each, and the words after them.
-    pub(crate) fn hex(&mut self, bytes: &[u8], words: &str) {
+    /// Bytes by two digits each: the library writes one byte so, and no slice.
+    pub(crate) fn hex(&mut self, bytes: &[u8]) -> Result<(), AllocError> {
         for byte in bytes {
-            self.sign(digit(*byte / 16));
-            self.sign(digit(*byte));
+            write!(self.text, "{byte:02x}")?;
         }
-        self.words(words);
+        Ok(())
     }
 
     /// A key in brackets, and its total.
-    fn key(&mut self, key: &[u8], total: Option<u64>) {
-        self.words(" <");
-        self.hex(key, ">=");
+    fn key(&mut self, key: &[u8], total: Option<u64>) -> Result<(), AllocError> {
+        write!(self.text, " <")?;
+        self.hex(key)?;
         match total {
-            Some(total) => self.number(total, ""),
-            None => self.words("above"),
+            Some(total) => write!(self.text, ">={total}"),
+            None => write!(self.text, ">=above"),
         }
     }
 
     /// The keys under a node, in their order.
-    fn keys(&mut self, catalogue: &Catalogue, node: u32, key: &mut Vec<u8>, total: Option<u64>) {
+    fn keys(
+        &mut self,
+        catalogue: &Catalogue,
+        node: u32,
+        key: &mut Vec<u8>,
+        total: Option<u64>,
+    ) -> Result<(), AllocError> {
         if catalogue.is_final(node) {
-            self.key(key.as_slice(), sum(total, catalogue.final_output(node)));
+            self.key(key.as_slice(), sum(total, catalogue.final_output(node)))?;
         }
-        for position in 0..catalogue.len(node) {
-            let Some(transition) = catalogue.transition(node, position) else {
-                return;
-            };
+        // by position, as a graph answers
+        for transition in (0..catalogue.len(node)).filter_map(|p| catalogue.transition(node, p)) {
             // always so in a lawful graph: the test is what shows that the walk ends
             if transition.target < node {
-                if key.push(transition.byte).is_err() {
-                    self.is_short = true;
-                    return;
-                }
-                self.keys(
-                    catalogue,
-                    transition.target,
-                    key,
-                    sum(total, transition.output),
-                );
+                key.push(transition.byte)?;
+                let total = sum(total, transition.output);
+                self.keys(catalogue, transition.target, key, total)?;
                 let _ = key.pop();
             }
         }
+        Ok(())
     }
 
     /// What a catalogue answers for a node.
-    pub(crate) fn answers(&mut self, catalogue: &Catalogue, node: u32) {
-        self.words("node ");
-        self.number(u64::from(node), ": ");
-        self.number(catalogue.len(node) as u64, " transitions");
+    pub(crate) fn answers(&mut self, catalogue: &Catalogue, node: u32) -> Result<(), AllocError> {
+        write!(
+            self.text,
+            "node {node}: {} transitions",
+            catalogue.len(node)
+        )?;
         if catalogue.is_final(node) {
-            self.words(", final with ");
-            self.number(catalogue.final_output(node), "");
+            write!(self.text, ", final with {}", catalogue.final_output(node))?;
         }
-        for byte in 0..=255u8 {
+        for byte in 0..=u8::MAX {
             if let Some(position) = catalogue.find_input(node, byte) {
-                self.words(", ");
-                self.hex(&[byte], " at ");
-                self.number(position as u64, "");
+                write!(self.text, ", {byte:02x} at {position}")?;
             }
         }
-        self.words("\n");
+        writeln!(self.text)
     }
 
+    // by number, as it is printed: 0 is a file that was opened
     fn count(&mut self, number: u8) {
-        let at = number as usize;
-        if at < 9 {
-            self.counts[at] = self.counts[at].saturating_add(1);
+        if let Some(count) = self.counts.get_mut(usize::from(number)) {
+            *count = count.saturating_add(1);
         }
     }
 
-    fn refusal(&mut self, refusal: Refusal, checked: Option<Refusal>) {
-        self.words("refused ");
-        self.number(u64::from(refusal.number()), " node ");
-        self.number(u64::from(refusal.node()), "");
-        self.count(refusal.number());
-        if !is_alike(checked, refusal.number(), refusal.node()) {
-            self.words(", but checked otherwise");
-        }
+    fn refused(&mut self, refusal: Refusal) -> Result<(), AllocError> {
+        let (number, node) = (refusal.number(), refusal.node());
+        self.count(number);
+        write!(self.text, "refused {number} node {node}")
     }
 
-    fn accepted(&mut self, catalogue: &Catalogue, checked: Option<Refusal>) {
-        self.words("accepted");
+    fn accepted(&mut self, catalogue: &Catalogue) -> Result<(), AllocError> {
+        self.count(0);
+        write!(self.text, "accepted")?;
         let mut key = Vec::new(self.heap);
         let total = Some(catalogue.first_total());
-        self.keys(catalogue, catalogue.root(), &mut key, total);
-        self.count(0);
-        if !is_alike(checked, 0, 0) {
-            self.words(", but checked otherwise");
-        }
+        self.keys(catalogue, catalogue.root(), &mut key, total)
     }
 
-    /// Opens a file, and tells its keys and totals, or its refusal, and the words after that.
-    pub(crate) fn outcome(&mut self, made: Result<Vec<u8>, AllocError>, words: &str) {
-        let Ok(bytes) = made else {
-            self.is_short = true;
-            return;
-        };
+    /// Opens a file, and tells its keys and totals, or its refusal.
+    pub(crate) fn outcome(&mut self, bytes: Vec<u8>) -> Result<(), AllocError> {
         let checked = check(bytes.as_slice());
-        match Catalogue::open(bytes) {
-            Ok(catalogue) => self.accepted(&catalogue, checked),
-            Err(refusal) => self.refusal(refusal, checked),
+        let opened = match Catalogue::open(bytes) {
+            Ok(catalogue) => {
+                self.accepted(&catalogue)?;
+                Ok(())
+            }
+            Err(refusal) => {
+                self.refused(refusal)?;
+                Err(refusal)
+            }
+        };
+        if checked != opened {
+            write!(self.text, ", but checked otherwise")?;
         }
-        self.words(words);
+        Ok(())
     }
 
     /// How often each number came.
-    pub(crate) fn tally(&mut self) {
-        self.words("accepted ");
-        self.number(u64::from(self.counts[0]), " times\n");
-        for number in 1..9 {
-            self.words("refused by ");
-            self.number(number as u64, " ");
-            self.number(u64::from(self.counts[number]), " times\n");
+    pub(crate) fn tally(&mut self) -> Result<(), AllocError> {
+        for (number, count) in self.counts.into_iter().enumerate() {
+            match number {
+                0 => writeln!(self.text, "accepted {count} times")?,
+                _ => writeln!(self.text, "refused by {number} {count} times")?,
+            }
         }
+        Ok(())
     }
 }

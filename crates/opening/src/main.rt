@@ -7,36 +7,29 @@ mod parts;
 
 use account::Account;
 use files::{FORK, LEAF, PAIR};
-use parts::{changes, cuts, double_changes, limits, questions, whole};
+use std::alloc::AllocError;
 use std::io;
 
-fn good_files(account: &mut Account) {
-    whole(account, "leaf", LEAF);
-    whole(account, "pair", PAIR);
-    whole(account, "fork", FORK);
-    questions(account, "fork", FORK);
-}
-
-fn cut_files(account: &mut Account) {
-    cuts(account, "leaf", LEAF);
-    cuts(account, "pair", PAIR);
-    cuts(account, "fork", FORK);
-}
-
-fn changed_files(account: &mut Account) {
-    changes(account, "pair", PAIR);
-    changes(account, "fork", FORK);
-    double_changes(account, "pair", PAIR);
+/// The whole account, or as much of it as memory holds.
+fn tell(account: &mut Account) -> Result<(), AllocError> {
+    for file in [LEAF, PAIR, FORK] {
+        account.whole(file)?;
+    }
+    account.questions(FORK)?;
+    for file in [LEAF, PAIR, FORK] {
+        account.cuts(file)?;
+    }
+    for file in [PAIR, FORK] {
+        account.changes(file)?;
+    }
+    account.double_changes(PAIR)?;
+    account.limits()?;
+    account.tally()
 }
 
 fn main(rt: HostRuntime) -> io::Result<()> {
     let mut account = Account::new(rt.alloc());
-    good_files(&mut account);
-    cut_files(&mut account);
-    changed_files(&mut account);
-    limits(&mut account);
-    account.tally();
-    if account.is_short {
+    if tell(&mut account).is_err() {
         rt.println("memory was wanting")?;
     }
     rt.print(account.text.as_str())

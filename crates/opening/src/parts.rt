@@ -1,6 +1,6 @@
 //! The parts of the account: whole files, cut ones, changed ones, and those at the limits.
 use crate::account::Account;
-use crate::files::{bare_nodes, wide_root};
+use crate::files::{GoodFile, bare_nodes, wide_root};
 use catalogue::Catalogue;
 use graph::Graph;
 use std::alloc::{AllocError, Global};
@@ -8,141 +8,139 @@ use std::alloc::{AllocError, Global};
 /// The values that each byte is changed to in turn.
 const VALUES: [u8; 5] = [0x00, 0x01, 0x02, 0x62, 0xff];
 
-/// Two bytes that are changed at once: the place and the value of the one, then of the other.
+/// A byte that is changed: its place, and the value that it gets.
 #[derive(Clone, Copy)]
-struct Two(usize, u8, usize, u8);
+struct Change {
+    at: usize,
+    value: u8,
+}
 
 /// Changes to the pair whose refusals meet, so that their order shows, and one whose total is too large.
-const TWOS: [Two; 11] = [
-    Two(0, 0, 4, 0),
-    Two(4, 37, 10, 2),
-    Two(10, 2, 20, 37),
-    Two(10, 2, 24, 3),
-    Two(20, 37, 24, 3),
-    Two(11, 1, 12, 0),
-    Two(24, 3, 25, 1),
-    Two(49, 97, 50, 1),
-    Two(37, 1, 49, 97),
-    Two(36, 99, 37, 1),
-    Two(19, 255, 48, 255),
+const TWOS: [[Change; 2]; 11] = [
+    [Change { at: 0, value: 0 }, Change { at: 4, value: 0 }],
+    [Change { at: 4, value: 37 }, Change { at: 10, value: 2 }],
+    [Change { at: 10, value: 2 }, Change { at: 20, value: 37 }],
+    [Change { at: 10, value: 2 }, Change { at: 24, value: 3 }],
+    [Change { at: 20, value: 37 }, Change { at: 24, value: 3 }],
+    [Change { at: 11, value: 1 }, Change { at: 12, value: 0 }],
+    [Change { at: 24, value: 3 }, Change { at: 25, value: 1 }],
+    [Change { at: 49, value: 97 }, Change { at: 50, value: 1 }],
+    [Change { at: 37, value: 1 }, Change { at: 49, value: 97 }],
+    [Change { at: 36, value: 99 }, Change { at: 37, value: 1 }],
+    [Change { at: 19, value: 255 }, Change { at: 48, value: 255 }],
 ];
 
-/// A file with one byte changed.
-fn changed(heap: Global, file: &[u8], at: usize, value: u8) -> Result<Vec<u8>, AllocError> {
+/// A file with some bytes changed.
+fn changed(heap: Global, file: &[u8], changes: &[Change]) -> Result<Vec<u8>, AllocError> {
     let mut bytes = Vec::from_slice(heap, file)?;
-    if at < bytes.len() {
-        bytes[at] = value;
+    for change in changes {
+        if let Some(byte) = bytes.get_mut(change.at) {
+            *byte = change.value;
+        }
     }
     Ok(bytes)
 }
 
-/// A file with two bytes changed.
-fn changed_twice(heap: Global, file: &[u8], two: Two) -> Result<Vec<u8>, AllocError> {
-    let mut bytes = changed(heap, file, two.0, two.1)?;
-    if two.2 < bytes.len() {
-        bytes[two.2] = two.3;
+impl Account {
+    /// A good file as it is.
+    pub(crate) fn whole(&mut self, file: GoodFile) -> Result<(), AllocError> {
+        write!(self.text, "{} ", file.name)?;
+        self.hex(file.bytes)?;
+        writeln!(self.text)?;
+        self.outcome(Vec::from_slice(self.heap, file.bytes)?)?;
+        writeln!(self.text)
     }
-    Ok(bytes)
-}
 
-/// A good file as it is.
-pub(crate) fn whole(account: &mut Account, name: &str, file: &[u8]) {
-    account.words(name);
-    account.words(" ");
-    account.hex(file, "\n");
-    account.outcome(Vec::from_slice(account.heap, file), "\n");
-}
-
-/// What an opened file answers for each of its nodes, and for two numbers that name none.
-fn questions_of(account: &mut Account, catalogue: &Catalogue) {
-    account.words(" has the root ");
-    account.number(u64::from(catalogue.root()), "\n");
-    for node in [0, 1, 2, 3, u32::MAX] {
-        account.answers(catalogue, node);
+    /// What an opened file answers for each of its nodes, and for two numbers that name none.
+    fn questions_of(&mut self, catalogue: &Catalogue) -> Result<(), AllocError> {
+        writeln!(self.text, " has the root {}", catalogue.root())?;
+        for node in [0, 1, 2, 3, u32::MAX] {
+            self.answers(catalogue, node)?;
+        }
+        Ok(())
     }
-}
 
-/// The questions to an opened file, and whether it gives its bytes back.
-fn opened(account: &mut Account, name: &str, catalogue: Catalogue, file: &[u8]) {
-    questions_of(account, &catalogue);
-    account.words(name);
-    if catalogue.into_bytes().as_slice() == file {
-        account.words(" gives its bytes back\n");
-    } else {
-        account.words(" gives other bytes back\n");
+    /// The questions to an opened file, and whether it gives its bytes back.
+    fn opened(&mut self, catalogue: Catalogue, file: GoodFile) -> Result<(), AllocError> {
+        self.questions_of(&catalogue)?;
+        let given = if catalogue.into_bytes().as_slice() == file.bytes {
+            "its"
+        } else {
+            "other"
+        };
+        writeln!(self.text, "{} gives {given} bytes back", file.name)
     }
-}
 
-/// A file, opened to be asked.
-pub(crate) fn questions(account: &mut Account, name: &str, file: &[u8]) {
-    let Ok(bytes) = Vec::from_slice(account.heap, file) else {
-        account.is_short = true;
-        return;
-    };
-    account.words(name);
-    match Catalogue::open(bytes) {
-        Ok(catalogue) => opened(account, name, catalogue, file),
-        Err(_) => account.words(" is refused\n"),
+    /// A file, opened to be asked.
+    pub(crate) fn questions(&mut self, file: GoodFile) -> Result<(), AllocError> {
+        let bytes = Vec::from_slice(self.heap, file.bytes)?;
+        write!(self.text, "{}", file.name)?;
+        match Catalogue::open(bytes) {
+            Ok(catalogue) => self.opened(catalogue, file),
+            Err(_) => writeln!(self.text, " is refused"),
+        }
     }
-}
 
-/// The first bytes of a file, of each length, a line for each.
-pub(crate) fn cuts(account: &mut Account, name: &str, file: &[u8]) {
-    account.words(name);
-    account.words(" cut off\n");
-    for length in 0..file.len() {
-        account.number(length as u64, " bytes: ");
-        account.outcome(Vec::from_slice(account.heap, &file[0..length]), "\n");
+    /// The first bytes of a file, of each length, a line for each.
+    pub(crate) fn cuts(&mut self, file: GoodFile) -> Result<(), AllocError> {
+        writeln!(self.text, "{} cut off", file.name)?;
+        // the length itself is printed and cut to
+        for length in 0..file.bytes.len() {
+            write!(self.text, "{length} bytes: ")?;
+            self.outcome(Vec::from_slice(self.heap, &file.bytes[..length])?)?;
+            writeln!(self.text)?;
+        }
+        Ok(())
     }
-}
 
-/// A byte of a file changed to each value.
-fn changes_at(account: &mut Account, file: &[u8], at: usize) {
-    account.number(at as u64, ":");
-    for value in VALUES {
-        account.words(" ");
-        account.hex(&[value], " ");
-        account.outcome(changed(account.heap, file, at, value), ";");
+    /// A byte of a file changed to each value.
+    fn changes_at(&mut self, file: &[u8], at: usize) -> Result<(), AllocError> {
+        write!(self.text, "{at}:")?;
+        for value in VALUES {
+            write!(self.text, " {value:02x} ")?;
+            self.outcome(changed(self.heap, file, &[Change { at, value }])?)?;
+            write!(self.text, ";")?;
+        }
+        writeln!(self.text)
     }
-    account.words("\n");
-}
 
-/// Each byte of a file changed to each value, a line for each byte.
-pub(crate) fn changes(account: &mut Account, name: &str, file: &[u8]) {
-    account.words(name);
-    account.words(" with one byte changed\n");
-    for at in 0..file.len() {
-        changes_at(account, file, at);
+    /// Each byte of a file changed to each value, a line for each byte.
+    pub(crate) fn changes(&mut self, file: GoodFile) -> Result<(), AllocError> {
+        writeln!(self.text, "{} with one byte changed", file.name)?;
+        // the place itself is printed and changed at
+        for at in 0..file.bytes.len() {
+            self.changes_at(file.bytes, at)?;
+        }
+        Ok(())
     }
-}
 
-/// Two bytes of a file changed at once.
-fn double_change(account: &mut Account, file: &[u8], two: Two) {
-    account.number(two.0 as u64, " ");
-    account.hex(&[two.1], " and ");
-    account.number(two.2 as u64, " ");
-    account.hex(&[two.3], ": ");
-    account.outcome(changed_twice(account.heap, file, two), "\n");
-}
-
-/// Two bytes of a file changed at once, in several ways.
-pub(crate) fn double_changes(account: &mut Account, name: &str, file: &[u8]) {
-    account.words(name);
-    account.words(" with two bytes changed\n");
-    for two in TWOS {
-        double_change(account, file, two);
+    /// Two bytes of a file changed at once, in several ways.
+    pub(crate) fn double_changes(&mut self, file: GoodFile) -> Result<(), AllocError> {
+        writeln!(self.text, "{} with two bytes changed", file.name)?;
+        for two in TWOS {
+            let [one, other] = two;
+            write!(self.text, "{} {:02x} and ", one.at, one.value)?;
+            write!(self.text, "{} {:02x}: ", other.at, other.value)?;
+            self.outcome(changed(self.heap, file.bytes, &two)?)?;
+            writeln!(self.text)?;
+        }
+        Ok(())
     }
-}
 
-/// Files at the limits of the format, and just beyond them.
-pub(crate) fn limits(account: &mut Account) {
-    account.words("limits\n");
-    for nodes in [1, 65535, 65536] {
-        account.number(u64::from(nodes), " nodes: ");
-        account.outcome(bare_nodes(account.heap, nodes), "\n");
-    }
-    for len in [255, 256, 257] {
-        account.number(u64::from(len), " transitions: ");
-        account.outcome(wide_root(account.heap, len), "\n");
+    /// Files at the limits of the format, and just beyond them.
+    pub(crate) fn limits(&mut self) -> Result<(), AllocError> {
+        writeln!(self.text, "limits")?;
+        // two loops: one over both would take a type and a function with clauses of its own
+        for nodes in [1, 65535, 65536] {
+            write!(self.text, "{nodes} nodes: ")?;
+            self.outcome(bare_nodes(self.heap, nodes)?)?;
+            writeln!(self.text)?;
+        }
+        for len in [255, 256, 257] {
+            write!(self.text, "{len} transitions: ")?;
+            self.outcome(wide_root(self.heap, len)?)?;
+            writeln!(self.text)?;
+        }
+        Ok(())
     }
 }

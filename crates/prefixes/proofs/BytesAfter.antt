@@ -1,12 +1,10 @@
 -- The bytes that lengthen a prefix. Assumes nothing.
-use Rattle.std.proofs.Common.{◌≡◌, ℕ, zero, suc, ◌+◌, ◌<◌, ◌≤◌, Bool, true, false, cond, ◌⊎◌, List, [], ◌∷◌, ◌++◌, length, Some, None, sym, refl, ap, ◌∙◌, inl, inr, arith}
+use Rattle.std.proofs.Common.{◌≡◌, ℕ, zero, suc, ◌+◌, ◌<◌, ◌≤◌, Bool, true, false, cond, ◌⊎◌, List, [], ◌∷◌, ◌++◌, length, Some, sym, refl, ap, ◌∙◌, inl, inr, arith}
+use Rattle.std.proofs.lemmas.Option.{none-some}
 use Rattle.std.proofs.lemmas.Bool.{cases_order}
 use Rattle.std.specs.List.{slice_get}
 use Rattle.byte_strings.specs.Order.{Bytes}
 use Rattle.prefixes.specs.Prefixes.{is_prefix, bytes_after}
-
-pub none_some : {A : Type 0} {P : Type 0} {x : A} → None ≡ Some x → P
-none_some e = let z : ◌≡◌ {A = ℕ} 0 1 = cc in absurd (omega arith)
 
 pub same_some : {x y : ℕ} → Some x ≡ Some y → x ≡ y
 same_some e = cc
@@ -33,7 +31,7 @@ module _ (ns : List Bytes) (w : Bytes) where
       go false e ih = let k = ap length (no_after f b e) in omega arith
 
   pub member : (f b p x : ℕ) → slice_get (bytes_after ns w f b) p ≡ Some x → (b ≤ x) × (x < b + f) × (is_prefix (w ++ (x ∷ [])) ns ≡ true)
-  member zero b p x h = none_some (ap (λ l. slice_get l p) (sym (none_after b)) ∙ h)
+  member zero b p x h = absurd (none-some _ (ap (λ l. slice_get l p) (sym (none_after b)) ∙ h))
   member (suc f) b p x h = go (is_prefix (w ++ (b ∷ [])) ns) refl p h (member f (suc b))
     where
       go : (v : Bool) → is_prefix (w ++ (b ∷ [])) ns ≡ v → (p : ℕ) → slice_get (bytes_after ns w (suc f) b) p ≡ Some x
@@ -50,7 +48,7 @@ module _ (ns : List Bytes) (w : Bytes) where
           ((let l = r.0 in omega arith), (let l = r.1 in omega arith), r.2)
 
   pub rising : (f b p q x y : ℕ) → p < q → slice_get (bytes_after ns w f b) p ≡ Some x → slice_get (bytes_after ns w f b) q ≡ Some y → x < y
-  rising zero b p q x y l h k = none_some (ap (λ z. slice_get z p) (sym (none_after b)) ∙ h)
+  rising zero b p q x y l h k = absurd (none-some _ (ap (λ z. slice_get z p) (sym (none_after b)) ∙ h))
   rising (suc f) b p q x y l h k = go (is_prefix (w ++ (b ∷ [])) ns) refl p q l h k (rising f (suc b))
     where
       go : (v : Bool) → is_prefix (w ++ (b ∷ [])) ns ≡ v → (p q : ℕ) → p < q → slice_get (bytes_after ns w (suc f) b) p ≡ Some x → slice_get (bytes_after ns w (suc f) b) q ≡ Some y
@@ -89,5 +87,5 @@ module _ (ns : List Bytes) (w : Bytes) where
       go true e (inr (inl n)) ih = let r = ih (omega arith) (omega arith) h in (suc r.0, ap (λ z. slice_get z (suc r.0)) (yes_after f b e) ∙ r.1)
       go false e (inl n) ih =
           let c : ◌≡◌ {A = Bool} true false = sym h ∙ ap (λ y. is_prefix (w ++ (y ∷ [])) ns) (sym n) ∙ e in
-          let z : ◌≡◌ {A = ℕ} 0 1 = cc in absurd (omega arith)
+          cc
       go false e (inr (inl n)) ih = let r = ih (omega arith) (omega arith) h in (r.0, ap (λ z. slice_get z r.0) (no_after f b e) ∙ r.1)

@@ -93,6 +93,24 @@ module _ (ns : List Bytes) (s : RisingNames ns) (w : Bytes) (i : ℕ) where
           ∙ ap (λ m. byte_at ns j (length w) ∷ bytes_after ns w m (suc (byte_at ns j (length w)))) g
           ∙ ap (λ m. byte_at ns j (length w) ∷ bytes_after ns w (256 - (byte_at ns j (length w) + 1)) m) k
 
+      -- all bytes from there on are as great as that of name j
+      pub raised : Divided ns w i j (byte_at ns j (length w))
+      raised =
+          let v : b ≤ byte_at ns j (length w) = c.above j (omega arith) h p in
+          let t : byte_at ns j (length w) < 256 = s.bytes j h (length w) in
+          record {
+            starts = c.starts;
+            from = c.from;
+            within = c.within;
+            small = omega arith;
+            below = λ m a q r. (let u = c.below m a q r in omega arith);
+            longer = c.longer;
+            above = λ m a n q. (elim (cases_lt j m) [
+              | inl g ↦ no_lower w (name_at ns j) (name_at ns m) p q (ordered ns s j m g n) (c.longer j (omega arith) h p)
+              | inr g ↦ let e : m ≡ j = omega arith in let f : byte_at ns m (length w) ≡ byte_at ns j (length w) = ap (λ z. byte_at ns z (length w)) e in omega arith
+            ]);
+          }
+
       -- past the group of name j
       pub onto : (k : ℕ) → j < k → k ≤ length ns → begins (w ++ (byte_at ns j (length w) ∷ [])) (name_at ns (k - 1)) ≡ true
           → (k < length ns → begins (w ++ (byte_at ns j (length w) ∷ [])) (name_at ns k) ≡ false) → Divided ns w i k (byte_at ns j (length w) + 1)

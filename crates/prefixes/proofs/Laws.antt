@@ -2,7 +2,7 @@
 use Rattle.std.proofs.Common.{◌≡◌, ℕ, ◌+◌, ◌-◌, ◌*◌, ◌/◌, ◌%◌, ◌<◌, ◌≤◌, true, false, cond, ◌⊎◌, List, [], ◌∷◌, ◌++◌, length, get_or, Some, None, Option, sym, refl, ap, ◌∙◌, inl, inr, arith}
 use Rattle.std.proofs.lemmas.Bool.{cases_Bool, ltb-true}
 use Rattle.std.proofs.lemmas.List.{length_push}
-use Rattle.std.proofs.lemmas.Option.{slice_get-get_or, slice_get_past}
+use Rattle.std.proofs.lemmas.Option.{none-some, slice_get-get_or, slice_get_past}
 use Rattle.std.specs.List.{slice_get}
 use Rattle.byte_strings.specs.Order.{Bytes}
 use Rattle.byte_strings.proofs.Fronts.{begins_length}
@@ -12,7 +12,7 @@ use Rattle.prefixes.specs.Prefixes.{name_at, lowest, is_prefix, node_of, prefix_
 use Rattle.prefixes.specs.Walks.{Node}
 use Rattle.prefixes.proofs.RisingNames.{RisingNames}
 use Rattle.prefixes.proofs.Lowest.{lowest_begins}
-use Rattle.prefixes.proofs.BytesAfter.{none_some, few_after, member, rising}
+use Rattle.prefixes.proofs.BytesAfter.{few_after, member, rising}
 use Rattle.prefixes.proofs.Nodes.{node_since, bytes_of_node, no_bytes, not_name, prefix_length}
 
 -- a transition lengthens the prefix of its node by one of the bytes that do
@@ -29,7 +29,7 @@ module _ (ns : List Bytes) where
   lengthens n p x h = by_node (cases_Bool (is_node ns n))
     where
       by_byte : Node ns n → (o : Option ℕ) → slice_get (bytes_after ns (prefix_of ns n) 256 0) p ≡ o → lengthened_by ns (prefix_of ns n) o ≡ Some x → Lengthens ns n p x
-      by_byte w None e f = none_some f
+      by_byte w None e f = absurd (none-some _ f)
       by_byte w (Some b) e f =
           let m = member ns (prefix_of ns n) 256 0 p b e in
           record { node = w; byte = b; at_p = e; small = (let l = m.1 in omega arith); more = m.2; is = cc }
@@ -37,7 +37,7 @@ module _ (ns : List Bytes) where
       by_node : (is_node ns n ≡ true) ⊎ (is_node ns n ≡ false) → Lengthens ns n p x
       by_node (inl e) =
           by_byte (node_since ns n e) (slice_get (bytes_after ns (prefix_of ns n) 256 0) p) refl (ap (λ l. lengthened_by ns (prefix_of ns n) (slice_get l p)) (sym (bytes_of_node ns n e)) ∙ h)
-      by_node (inr e) = none_some (ap (λ l. lengthened_by ns (prefix_of ns n) (slice_get l p)) (sym (no_bytes ns n e)) ∙ h)
+      by_node (inr e) = absurd (none-some _ (ap (λ l. lengthened_by ns (prefix_of ns n) (slice_get l p)) (sym (no_bytes ns n e)) ∙ h))
 
   pub few_bytes : (n : ℕ) → length (node_bytes ns n) ≤ 256
   few_bytes n = go (cases_Bool (is_node ns n))

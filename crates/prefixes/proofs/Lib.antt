@@ -5,5 +5,5 @@ pub mod Nodes
 pub mod Laws
 pub mod Keys
 pub mod Divided
-pub mod Passed
 pub mod Stands
+pub mod Listed

@@ -7,7 +7,7 @@ ghost use Rattle.filter.proofs.CombinatorMeanings.{always_match_table_means};
 use crate::Automaton;
 
 /// Every key: for a place that takes a filter where none is wanted.
-#[derive(Clone, Copy)]
+#[derive(Clone, Copy, Debug, PartialEq, Eq)]
 pub struct AlwaysMatch;
 
 impl Automaton for AlwaysMatch {
@@ -15,11 +15,11 @@ impl Automaton for AlwaysMatch {
 
     ghost table = { λ _. always_match_table };
 
-    ghost lawful = { λ _. always_match_table_lawful };
-
     ghost matching = { λ _. AllKeys };
 
     ghost accepting = { λ _. AllKeys };
+
+    ghost lawful = { λ _. always_match_table_lawful };
 
     ghost means = { λ _. always_match_table_means };
 

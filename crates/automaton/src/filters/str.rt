@@ -7,24 +7,29 @@ ghost use Rattle.filter.proofs.Lawful.{str_table_lawful};
 ghost use Rattle.filter.proofs.StrMeaning.{str_table_means};
 
 use crate::Automaton;
-use crate::promise::promise;
 
 /// The key equal to these bytes. The state is the number of bytes that agreed, or `None` after one that did not.
-#[derive(Clone, Copy)]
+#[derive(Clone, Copy, Debug, PartialEq, Eq)]
 pub struct Str<'a> {
     pub(crate) bytes: &'a [u8],
 }
 
 impl<'a> Str<'a> {
+    // both laws again, for this table, so that they can be read off the signature
     /// The filter that matches exactly these bytes.
     pub fn new(bytes: &'a [u8]) -> Str<'a>
         ensures holds { result.bytes.now ≡ bytes.now }
         ensures lawful { Lawful (str_table result.bytes.now) }
         ensures means { Means (str_table result.bytes.now) (EqualTo bytes.now) (EqualTo bytes.now) }
     {
-        let filter = Str { bytes };
-        promise(&filter);
-        filter
+        Str::holding(bytes)
+    }
+
+    // Apart from `new`, so that other bytes than these are refused here and not in a proof of the laws.
+    fn holding(bytes: &'a [u8]) -> Str<'a>
+        ensures { result.bytes.now ≡ bytes.now }
+    {
+        Str { bytes }
     }
 }
 
@@ -33,11 +38,11 @@ impl Automaton for Str<'_> {
 
     ghost table = { λ f. str_table f.bytes.now };
 
-    ghost lawful = { λ f. str_table_lawful f.bytes.now };
-
     ghost matching = { λ f. EqualTo f.bytes.now };
 
     ghost accepting = { λ f. EqualTo f.bytes.now };
+
+    ghost lawful = { λ f. str_table_lawful f.bytes.now };
 
     ghost means = { λ f. str_table_means f.bytes.now };
 
@@ -46,10 +51,7 @@ impl Automaton for Str<'_> {
     }
 
     fn is_match(&self, state: Option<usize>) -> bool {
-        match state {
-            Some(position) => position == self.bytes.len(),
-            None => false,
-        }
+        state == Some(self.bytes.len())
     }
 
     fn can_match(&self, state: Option<usize>) -> bool {
@@ -61,10 +63,8 @@ impl Automaton for Str<'_> {
     }
 
     fn accept(&self, state: Option<usize>, byte: u8) -> Option<usize> {
-        let Some(position) = state else {
-            return None;
-        };
-        if position < self.bytes.len() && self.bytes[position] == byte {
+        let position = state?;
+        if self.bytes.get(position) == Some(&byte) {
             Some(position + 1)
         } else {
             None

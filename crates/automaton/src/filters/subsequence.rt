@@ -7,24 +7,23 @@ ghost use Rattle.filter.proofs.Lawful.{subsequence_table_lawful};
 ghost use Rattle.filter.proofs.SubsequenceMeaning.{subsequence_table_means};
 
 use crate::Automaton;
-use crate::promise::promise;
 
 /// The keys that hold these bytes in order, with gaps. The state is the number of bytes found.
-#[derive(Clone, Copy)]
+#[derive(Clone, Copy, Debug, PartialEq, Eq)]
 pub struct Subsequence<'a> {
     pub(crate) bytes: &'a [u8],
 }
 
 impl<'a> Subsequence<'a> {
+    // both laws again, for this table, so that they can be read off the signature
     /// The filter that matches the keys that these bytes are a subsequence of.
+    #[tactic(auto, using(filter::proofs::Lawful::subsequence_table_lawful, filter::proofs::SubsequenceMeaning::subsequence_table_means))]
     pub fn new(bytes: &'a [u8]) -> Subsequence<'a>
         ensures holds { result.bytes.now ≡ bytes.now }
         ensures lawful { Lawful (subsequence_table result.bytes.now) }
         ensures means { Means (subsequence_table result.bytes.now) (SubsequenceOf bytes.now) (SubsequenceOf bytes.now) }
     {
-        let filter = Subsequence { bytes };
-        promise(&filter);
-        filter
+        Subsequence { bytes }
     }
 }
 
@@ -33,11 +32,11 @@ impl Automaton for Subsequence<'_> {
 
     ghost table = { λ f. subsequence_table f.bytes.now };
 
-    ghost lawful = { λ f. subsequence_table_lawful f.bytes.now };
-
     ghost matching = { λ f. SubsequenceOf f.bytes.now };
 
     ghost accepting = { λ f. SubsequenceOf f.bytes.now };
+
+    ghost lawful = { λ f. subsequence_table_lawful f.bytes.now };
 
     ghost means = { λ f. subsequence_table_means f.bytes.now };
 
@@ -58,7 +57,7 @@ impl Automaton for Subsequence<'_> {
     }
 
     fn accept(&self, state: usize, byte: u8) -> usize {
-        if state < self.bytes.len() && self.bytes[state] == byte {
+        if self.bytes.get(state) == Some(&byte) {
             state + 1
         } else {
             state

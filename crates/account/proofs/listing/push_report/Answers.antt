@@ -1,54 +1,54 @@
-use Rattle.std.proofs.Common.{◌+◌, ◌++◌, vec_items, ap, ◌∙◌, arith}
-use Rattle.account.specs.Account.{key_line, refused_line}
-use Rattle.std.proofs.lemmas.Result.{IfOk-weaker}
+use Rattle.std.proofs.Common.{◌≡◌, ◌+◌, length, vec_items, ap, ◌∙◌, arith}
+use Rattle.std.proofs.Math.Nat.{lt_of_not-le}
+use Rattle.std.proofs.lemmas.Result.{err_from_is_err_and}
+use Rattle.account.specs.declared.refusal.Refusal.TheVariants.{SumTooLarge}
 use Rattle.input.specs.Reading.{asked_of}
-use Rattle.account.proofs.Reports.{finished, not_chosen, was_chosen, passed_over, printed, too_large, moved, names_long, past_most, within_most, same_entry}
+use Rattle.account.proofs.Reports.{finished, not_chosen, was_chosen, row_chosen, passed_over, printed, too_large, moved, names_long}
 use Rattle.account.proofs.listing.push_report.Goals as goal
-use Rattle.account.proofs.listing.push_report.Goals.{in-Some+in-Some-checked_add+in_ok-push_key_line, in_default}
+use Rattle.account.proofs.listing.push_report.Goals.{in-Some+in_ok-total+in_ok-push_key_line, in_default}
 
-pub returns-in_default-checked_add : goal.returns-in_default-checked_add
-returns-in_default-checked_add c =
-    let text = c.args.text.now in
-    let a = asked_of text c.args.input.now in
-    let n = names_long text c.args.input.now in
-    let h = was_chosen a c.loop-i.i _ c.in-Some.ensures in
-    IfOk-weaker c.push_refused_line.result _ _
-    (λ _ p. too_large a _ _ c.loop-i.count c.loop-i.i c.loop-i.invariant.1 (omega arith) h.0 _
-    (past_most _ c.in_default-checked_add.ensures) (p ∙ ap (λ k. vec_items c.loop-i.out ++ refused_line k) c.number.ensures))
-    c.push_refused_line.ensures
+pub returns-in_err-total : goal.returns-in_err-total
+returns-in_err-total c =
+    let a = asked_of c.args.input.now in
+    let n = names_long c.args.input.now in
+    let l = ap length c.deref-name-items.ensures.value in
+    let r = row_chosen c.args.input.now _ c.loop-i.i _ c.deref-name-items.ensures.value c.loop-i-test.true in
+    let h = was_chosen a c.loop-i.i _ (c.in-Some.ensures ∙ r) in
+    let e = err_from_is_err_and c.from_residual.result c.from_residual.ensures.1 in
+    let m = rw c.in_err-total.ensures.ok_part at c.checked_add.ensures in
+    let v = rw c.in_err-total.ensures.ok_part at c.in_err-total.ensures.value in
+    let s : c.in_err-total.field-0.0 ≡ SumTooLarge = cc in
+    rw (e.1, e.2, s)
+    (too_large a _ _ c.loop-i.count c.loop-i.i c.loop-i.invariant.1 (omega arith) h.0 (lt_of_not-le (λ k. m (omega arith))))
 
 pub loop-i-preserved : goal.loop-i-preserved
-loop-i-preserved c = elim c.match-chosen_name.branch [
-  | in-Some+in-Some-checked_add+in_ok-push_key_line w ↦
-      let text = c.args.text.now in
-      let a = asked_of text c.args.input.now in
-      let n = names_long text c.args.input.now in
-      let h = was_chosen a c.loop-i.i _ w.in-Some.ensures in
-      let s = w.in-Some-checked_add.ensures in
-      let l = c.loop-i.invariant.0 in
-      let m = w.count-is in (
-        omega arith,
-        moved a _ _ _ (c.loop-i.count + 1) _ _ (ap vec_items w.out-is) m
-            (printed a _ (vec_items c.loop-i.out) c.loop-i.count c.loop-i.i c.loop-i.invariant.1 (omega arith) h.0 _ (within_most _ s.0)
-            (w.in_ok-push_key_line.ensures ∙ ap (λ e. vec_items c.loop-i.out ++ key_line e) (same_entry _ _ _ _ s.1 h.1))),
-      )
-  | in_default w ↦
-      let text = c.args.text.now in
-      let a = asked_of text c.args.input.now in
-      let n = names_long text c.args.input.now in
-      let l = c.loop-i.invariant.0 in
-      let m = w.count-is in (
-        omega arith,
-        moved a _ _ _ c.loop-i.count _ _ (ap vec_items w.out-is) m
-            (passed_over a _ (vec_items c.loop-i.out) c.loop-i.count c.loop-i.i c.loop-i.invariant.1 (omega arith) (not_chosen a c.loop-i.i w.in_default.ensures)),
-      )
-]
+loop-i-preserved c =
+    let a = asked_of c.args.input.now in
+    let n = names_long c.args.input.now in
+    let q = ap length c.deref-name-items.ensures.value in
+    let r = row_chosen c.args.input.now _ c.loop-i.i _ c.deref-name-items.ensures.value c.loop-i-test.true in
+    let l = c.loop-i.invariant.0 in
+    elim c.match-chosen_key.branch [
+      | in-Some+in_ok-total+in_ok-push_key_line w ↦
+          let h = was_chosen a c.loop-i.i _ (w.in-Some.ensures ∙ r) in
+          let s = rw w.in_ok-total.ensures.ok_part at w.checked_add.ensures in
+          let m = w.count-is in (
+            omega arith,
+            moved a _ _ _ (c.loop-i.count + 1) _ _ (ap vec_items w.out-is) m
+                (printed a _ (vec_items c.loop-i.out) c.loop-i.count c.loop-i.i c.loop-i.invariant.1 (omega arith) h.0 _ (let f = s.0 in omega arith)
+                (rw (← s.1, ← h.1) w.in_ok-push_key_line.ensures)),
+          )
+      | in_default w ↦
+          let f = not_chosen a c.loop-i.i (w.in_default.ensures ∙ r) in
+          let m = w.count-is in (
+            omega arith,
+            moved a _ _ _ c.loop-i.count _ _ (ap vec_items w.out-is) m
+                (passed_over a _ (vec_items c.loop-i.out) c.loop-i.count c.loop-i.i c.loop-i.invariant.1 (omega arith) f),
+          )
+    ]
 
 pub returns : goal.returns
 returns c =
-    let text = c.args.text.now in
-    let a = asked_of text c.args.input.now in
-    let n = names_long text c.args.input.now in
-    IfOk-weaker c.push_end_line.result _ _
-    (λ _ p. finished a _ _ c.loop-i.count c.loop-i.i c.loop-i.invariant.1 (omega arith) _ p)
-    c.push_end_line.ensures
+    let n = names_long c.args.input.now in
+    let l = ap length c.deref-name-items.ensures.value in
+    finished (asked_of c.args.input.now) _ _ c.loop-i.count c.loop-i.i c.loop-i.invariant.1 (omega arith) _ c.in_ok-push_end_line.ensures

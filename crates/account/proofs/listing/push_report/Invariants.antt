@@ -4,4 +4,4 @@ use Rattle.account.proofs.Reports.{Ahead}
 use Rattle.account.proofs.listing.push_report.Given as goal
 
 abbrev pub invariant-loop-i : goal.invariant-loop-i
-invariant-loop-i l = (l.count ≤ l.i) × Ahead (asked_of l.text l.input) (vec_items l.initial.out) (vec_items l.out) l.count l.i
+invariant-loop-i l = (l.count ≤ l.i) × Ahead (asked_of l.input) (vec_items l.initial.out) (vec_items l.out) l.count l.i

@@ -1,37 +1,28 @@
-use Rattle.std.proofs.Common.{sym, ap, arith}
+use Rattle.std.proofs.Common.{rules, sym, ap, ◌∙◌}
+use Rattle.std.proofs.lemmas.List.Sorted.{answers_always}
 use Rattle.std.proofs.lemmas.Result.{err_from_is_err_and}
-use Rattle.input.specs.Lines.{lines}
-use Rattle.input.specs.Asked.{act_lines}
+use Rattle.input.specs.Asked.{act_line}
 use Rattle.input.specs.Reading.{asked_of}
-use Rattle.input.proofs.Lining.{line_good, line_bad, bad_line_bad_text, text_done}
+use Rattle.input.specs.Steps.{ends_line}
+use Rattle.input.proofs.Lining.{next_piece, line_bad, line_good, bad_line, all_read}
 use Rattle.input.proofs.reading.read_lines.Goals as goal
 
-pub loop-at-init : goal.loop-at-init
-loop-at-init c =
-    let made = c.new-input.ensures c.args.text.now in
-    (made.1, ap (λ o. act_lines o (lines c.args.text.now)) (sym made.0))
+pub loop-line-preserved : goal.loop-line-preserved
+loop-line-preserved c =
+    let s = rw c.in-Some.is at c.next.ensures.steps in
+    let f = s.1.2 ends_line (answers_always _ _ _ (λ f a r g h. search rules)) in
+    let p = next_piece _ _ _ s.1.0 s.0 s.1.1 f.1 s.2 in
+    let e = ap (act_line (asked_of c.loop-line.input)) (sym c.without_feed.ensures) ∙ c.in_ok-act_line.ensures.0 in
+    (search rules, tt, line_good _ _ _ _ _ _ c.loop-line.invariant.2 p _ e c.in_ok-act_line.ensures.1)
 
-pub loop-at-preserved : goal.loop-at-preserved
-loop-at-preserved c = (
-  c.in_ok-input.ensures.1,
-  line_good c.args.text.now c.loop-at.at c.line_end-end.result _ (omega arith) c.line_end-end.ensures c.loop-at.invariant.1
-      (asked_of c.args.text.now c.in_ok-input.input) c.in_ok-input.ensures.0,
-)
-
-pub returns-in_err-input : goal.returns-in_err-input
-returns-in_err-input c =
-    let p = err_from_is_err_and c.from_residual.result c.from_residual.ensures.1 in
-    rw (p.1, p.2)
-    (bad_line_bad_text c.args.text.now _ _ c.in_err-input.field-0.0
-    (line_bad c.args.text.now c.loop-at.at c.line_end-end.result _ (omega arith) c.line_end-end.ensures c.loop-at.invariant.1) c.in_err-input.ensures)
+pub returns-in_err-act_line : goal.returns-in_err-act_line
+returns-in_err-act_line c =
+    let s = rw c.in-Some.is at c.next.ensures.steps in
+    let f = s.1.2 ends_line (answers_always _ _ _ (λ f a r g h. search rules)) in
+    let p = next_piece _ _ _ s.1.0 s.0 s.1.1 f.1 s.2 in
+    let w = ap (act_line (asked_of c.loop-line.input)) (sym c.without_feed.ensures) in
+    let e = err_from_is_err_and c.from_residual.result c.from_residual.ensures.1 in
+    rw (e.1, e.2) (bad_line c.args.text.now _ _ _ _ (λ o. line_bad _ _ _ _ _ _ c.loop-line.invariant.2 p (w ∙ o)) c.in_err-act_line.ensures)
 
 pub returns : goal.returns
-returns c = (text_done c.args.text.now c.loop-at.at _ (omega arith) c.loop-at.invariant.1, c.loop-at.invariant.0)
-
-pub act_line-requires : goal.act_line-requires
-act_line-requires c = record {
-  forward = c.line_end-end.ensures.forward;
-  inside = c.line_end-end.ensures.inside;
-  few = c.requires;
-  names_inside = c.loop-at.invariant.0;
-}
+returns c = let s = rw c.in-None.is at c.next.ensures.steps in (all_read _ _ _ _ c.loop-line.invariant.2 s.0, c.loop-line.invariant.2.same)
