@@ -80,7 +80,8 @@ module _ (l : Opened) (w : Bytes) (rows : List Name) (same : rows ≡ vec_items 
         let z : from + 0 ≡ from = omega arith in
         let some : 0 < k = elim (cases_lt 0 k) [
           | inl a ↦ a
-          | inr a ↦ absurd (both_ways (begins w (name_at (names_in l) from)) (ap (λ i. begins w (name_at (names_in l) i)) (sym z) ∙ sym (begins_at 0 blank (omega arith)) ∙ point.1 0 blank a (omega arith)) b)
+          | inr a ↦ absurd (both_ways (begins w (name_at (names_in l) from))
+              (ap (λ i. begins w (name_at (names_in l) i)) (sym z) ∙ sym (begins_at 0 blank (omega arith)) ∙ point.1 0 blank a (omega arith)) b)
         ] in
         let y : from + k - 1 ≡ from + (k - 1) = omega arith in
         record {

@@ -11,5 +11,6 @@ itself (Some x) = refl
 
 pub returns : goal.returns
 returns c =
-    sym (itself c.nth.result) ∙ nth_from_yields_List c.nth.result c.nth.new.self c.args.position c.nth.ensures.ran (YieldsList-from_first (λ x. x) left_of {s = c.walk.result} (left_of c.walk.result) refl)
+    sym (itself c.nth.result) ∙ nth_from_yields_List c.nth.result c.nth.new.self c.args.position c.nth.ensures.ran
+    (YieldsList-from_first (λ x. x) left_of {s = c.walk.result} (left_of c.walk.result) refl)
     ∙ c.walk.ensures.at c.args.position
