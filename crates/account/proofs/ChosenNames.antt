@@ -1,10 +1,10 @@
 -- The test of a chosen name says what its words say. Assumes nothing.
-use Rattle.std.proofs.Common.{◌≡◌, ℕ, Bool, true, false, cond, ◌&&◌, eqb, [], ◌∷◌, ◌++◌, Decides, sym, refl, ap, ◌∙◌, subst}
-use Rattle.std.proofs.lemmas.Bool.{and_from, and_parts, eqb-true, eqb-false, false≢true}
-use Rattle.byte_strings.specs.Order.{Bytes, begins}
+use Rattle.std.proofs.Common.{◌≡◌, ℕ, Bool, true, false, cond, eqb, [], ◌∷◌, refl, subst}
+use Rattle.std.proofs.lemmas.Bool.{and_from, and_parts, eqb-true, eqb-false}
+use Rattle.byte_strings.specs.Order.{Bytes}
 use Rattle.byte_strings.proofs.OrderLaws.{begins_law}
 use Rattle.bound.proofs.Words.{within_said, within_test}
-use Rattle.filter.specs.Meanings.{StartingWith, EqualTo, SubsequenceOf, ended, taken, skipped}
+use Rattle.filter.specs.Meanings.{SubsequenceOf, ended, taken, skipped}
 use Rattle.input.specs.Asked.{Asked}
 use Rattle.account.specs.Chosen.{is_subsequence, is_chosen, Chosen}
 
@@ -49,23 +49,6 @@ subsequence_test (x ∷ s) (y ∷ k) p = go (eqb x y) refl (subsequence_test s k
         → cond u (is_subsequence s k) (is_subsequence (x ∷ s) k) ≡ true
     go true e same other = same (after_same p)
     go false e same other = other (after_other (eqb-false x y e) p)
-
--- what the filter decides is the two tests
-pub passes_tests : (p s k : Bytes) (r : Bool) → Decides r (StartingWith (EqualTo p) k × SubsequenceOf s k) → r ≡ (begins p k && is_subsequence s k)
-passes_tests p s k true d =
-    let both = d.0 refl in
-    let front = both.0 in
-    sym (and_from _ _
-    ((begins_law.begins_is_front p k).1 (front.1, ap (λ l. l ++ front.1) (sym front.3) ∙ front.2))
-    (subsequence_test s k both.1))
-passes_tests p s k false d = go (begins p k && is_subsequence s k) refl
-  where
-    go : (v : Bool) → (begins p k && is_subsequence s k) ≡ v → false ≡ v
-    go false e = refl
-    go true e =
-        let q = and_parts _ _ e in
-        let front = (begins_law.begins_is_front p k).0 q.0 in
-        absurd (false≢true (d.1 ((p, front.0, front.1, refl), subsequence_said s k q.1)))
 
 pub chosen_said : (a : Asked) (k : Bytes) → is_chosen a k ≡ true → Chosen a k
 chosen_said a k h =

@@ -1,5 +1,10 @@
 mod ChosenNames
 mod ListRefusals
-mod Opening
-mod Reports
+mod OpenedLists
 mod AccountLaws
+mod Searches
+mod ChosenEntries
+mod Telling
+mod Openings
+mod Going
+mod Tables

@@ -1,5 +1,5 @@
 -- Which names are chosen: as a test, and in words. Assumes nothing.
-use Rattle.std.specs.Prelude.{◌≡◌, Bool, true, false, cond, ◌&&◌, [], ◌∷◌, ◌++◌, Some, None, Option, ◌==◌}
+use Rattle.std.specs.Prelude.{◌≡◌, Bool, true, false, cond, ◌&&◌, [], ◌∷◌, ◌++◌, ◌==◌}
 use Rattle.byte_strings.specs.Order.{Bytes, begins}
 use Rattle.bound.specs.Within.{is_within, Within}
 use Rattle.filter.specs.Meanings.{SubsequenceOf}
@@ -14,11 +14,6 @@ is_subsequence (x ∷ s) (y ∷ k) = cond (x == y) (is_subsequence s k) (is_subs
 -- within the bounds, with the prefix, with the subsequence
 abbrev pub is_chosen : Asked → Bytes → Bool
 is_chosen a k = is_within a.lower a.upper k && (begins a.prefix k && is_subsequence a.subsequence k)
-
--- a name that was found, where it is chosen
-abbrev pub chosen_key : Asked → Option Bytes → Option Bytes
-chosen_key a None = None
-chosen_key a (Some k) = cond (is_chosen a k) (Some k) None
 
 pub record Chosen (a : Asked) (k : Bytes) : Type 0 where
   pub within : Within a.lower a.upper k

@@ -3,5 +3,7 @@ pub mod Refusals
 pub mod Numbers
 pub mod Errors
 pub mod Account
+pub mod Tables
+pub mod Searches
 pub mod Steps
 pub mod Law

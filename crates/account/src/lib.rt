@@ -6,12 +6,14 @@ ghost use Rattle.account.specs.Account.{account_of};
 ghost use Rattle.account.specs.Law.{AccountLaw};
 ghost use Rattle.account.specs.Steps.{Prints};
 
-use crate::listing::{open, push_report};
+use crate::asked::{filter_of, list_of, query_of, shifted};
+use crate::listing::push_lines;
 use crate::printing::push_refused_line;
 use crate::refusal::AccountError;
+use input::{Input, read};
 use std::alloc::{AllocError, Global};
 
-mod choosing;
+mod asked;
 mod listing;
 mod printing;
 mod refusal;
@@ -20,8 +22,19 @@ mod refusal;
 fn push_account(out: &mut Vec<u8>, input: &[u8]) -> Result<(), AccountError>
     ensures { Prints (account_of input.now) result out.old.items out.new.items }
 {
-    let asked = open(*out.allocator(), input)?;
-    push_report(out, &asked)
+    let Input {
+        text,
+        lower,
+        upper,
+        prefix,
+        subsequence,
+        shift,
+        names,
+    } = read(*out.allocator(), input)?;
+    let list = list_of(*out.allocator(), text, names)?;
+    let query = query_of(lower, upper);
+    let filter = filter_of(prefix, subsequence);
+    push_lines(out, query, &shifted(list, shift), &filter)
 }
 
 /// The account of an input: the bytes that a listing prints, or want of memory.

@@ -17,7 +17,7 @@ pub(crate) fn push_key_line(out: &mut Vec<u8>, total: u64, key: &[u8]) -> io::Re
 }
 
 /// Adds the last line: the end, with the number of keys.
-pub(crate) fn push_end_line(out: &mut Vec<u8>, count: usize) -> io::Result<()>
+pub(crate) fn push_end_line(out: &mut Vec<u8>, count: u32) -> io::Result<()>
     ensures { OnOk result (out.new.items ≡ out.old.items ++ end_line count) }
 {
     writeln!(out, "end {count}")

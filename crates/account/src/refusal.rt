@@ -1,11 +1,13 @@
 //! Why an account ends early.
 ghost use Rattle.std.specs.Prelude.{◌≡◌};
-ghost use Rattle.account.specs.declared.refusal.Refusal.TheVariants.{List};
+ghost use Rattle.account.specs.declared.refusal.Refusal.TheVariants.{List, BoundTooLong, SumTooLarge};
 ghost use Rattle.account.specs.declared.refusal.AccountError.TheVariants.{Refused, OutOfMemory};
 ghost use Rattle.account.specs.Numbers.{number_of};
 ghost use Rattle.account.specs.Errors.{error_of};
 
 use input::ReadError;
+use search::Unopened;
+use std::alloc::AllocError;
 use std::io;
 
 /// What keeps an account from being whole.
@@ -68,6 +70,32 @@ impl From<ReadError> for AccountError {
             ReadError::Refused(refusal) => AccountError::Refused(Refusal::Input(refusal)),
             ReadError::OutOfMemory => AccountError::OutOfMemory,
         }
+    }
+}
+
+/// There are rows and key bytes enough for every name, so only a lower bound can be too long.
+impl From<Unopened<'_>> for AccountError {
+    ghost from_gives = { λ _ e. e ≡ Refused BoundTooLong };
+
+    fn from(_unopened: Unopened<'_>) -> AccountError {
+        AccountError::Refused(Refusal::BoundTooLong)
+    }
+}
+
+/// For the same reason nothing but a total that is too large keeps a search from its next key.
+impl From<search::Refusal> for AccountError {
+    ghost from_gives = { λ _ e. e ≡ Refused SumTooLarge };
+
+    fn from(_refusal: search::Refusal) -> AccountError {
+        AccountError::Refused(Refusal::SumTooLarge)
+    }
+}
+
+impl From<AllocError> for AccountError {
+    ghost from_gives = { λ _ e. e ≡ OutOfMemory };
+
+    fn from(_error: AllocError) -> AccountError {
+        AccountError::OutOfMemory
     }
 }
 

@@ -1,11 +1,11 @@
 //! Bounds on keys. A bound holds the caller's bytes themselves.
 #![tactic(auto)]
 
-ghost use Rattle.std.specs.Prelude.{◌≡◌, true, ◌↔◌};
+ghost use Rattle.std.specs.Prelude.{◌≡◌, true, ◌↔◌, [], ◌∷◌, ◌++◌};
 ghost use Rattle.bound.specs.Value.{value_of, bytes_of};
 ghost use Rattle.bound.specs.Within.{is_reached, is_exceeded, is_within, Within};
 
-use byte_strings::compare;
+use byte_strings::{compare, compare_with_byte};
 
 /// The lower or the upper end of the keys that are wanted.
 // No `std::ops::Bound`: a type of the library takes no methods of ours, and a trait for them is no plainer.
@@ -25,7 +25,7 @@ impl<'b> Bound<'b> {
         ensures { result.now ≡ bytes_of (value_of self.entry) }
     {
         match self {
-            // no `Option`: an absent bound asks for as little room as an empty one
+            // no `Option`: an absent bound asks for as few rows and bytes as an empty one
             Bound::Unbounded => b"",
             Bound::Included(bytes) | Bound::Excluded(bytes) => bytes,
         }
@@ -50,6 +50,17 @@ impl<'b> Bound<'b> {
             Bound::Unbounded => false,
             Bound::Included(bytes) => compare(key, bytes).is_gt(),
             Bound::Excluded(bytes) => compare(key, bytes).is_ge(),
+        }
+    }
+
+    /// The same of the key `front` followed by `byte`, without writing the byte.
+    pub fn exceeded_with_byte(self, front: &[u8], byte: u8) -> bool
+        ensures { result ≡ is_exceeded (value_of self.entry) (front.now ++ (byte ∷ [])) }
+    {
+        match self {
+            Bound::Unbounded => false,
+            Bound::Included(bytes) => compare_with_byte(front, byte, bytes).is_gt(),
+            Bound::Excluded(bytes) => compare_with_byte(front, byte, bytes).is_ge(),
         }
     }
 }

@@ -1,34 +1,43 @@
 -- What each call owes, from the law of the search. Assumes nothing.
-use Rattle.std.proofs.Common.{◌≡◌, ℕ, ◌+◌, Bool, eqb, ◌⊎◌, List, [], ◌++◌, length, sym, refl, ap, ◌∙◌, subst, inl, inr, eq-eqb}
+use Rattle.std.proofs.Common.{◌≡◌, ℕ, ◌+◌, Bool, true, false, eqb, Some, None, ◌⊎◌, List, [], ◌++◌, length, sym, refl, ap, ◌∙◌, subst, inl, inr, eq-eqb}
 use Rattle.byte_strings.specs.Order.{Bytes}
 use Rattle.bound.specs.Value.{BoundValue}
 use Rattle.graph.specs.Table.{Table, Lawful}
-use Rattle.filter.specs.Filter.{Filter, Lawful as LawfulFilter}
+use Rattle.filter.specs.Filter.{Filter, verdict_at, Lawful as LawfulFilter}
 use Rattle.law.specs.declared.Row.{Row}
-use Rattle.law.specs.Values.{Search, View, Answer, Part}
-use Rattle.law.specs.Next.{next_of, key_of}
+use Rattle.law.specs.Values.{Search, View, Answer, Part, Result, with_search, without_key, without_waiting, too_short, is_admitted}
+use Rattle.law.specs.Next.{next_of, key_of, walk, Walks}
 use Rattle.law.specs.Open.{open_of}
 use Rattle.law.specs.History.{History, opened, next, next_refused, given_out}
 use Rattle.law.specs.Theorems.{GoesOnElsewhere}
-use Rattle.law.specs.Calls.{NextLaw, KeyLaw, CloseLaw, UnionLaw, ComplementLaw, OpenLaw, OpenReason}
-use Rattle.law.proofs.Histories.{handed_out_is_front, exhausted_lists_all}
+use Rattle.law.specs.Calls.{NextLaw, KeyLaw, CloseLaw, UnionLaw, ComplementLaw, OpenLaw, OpenReason, Looked}
+use Rattle.law.proofs.Looks.{always_bounded}
+use Rattle.law.proofs.Stands.{next_tells}
+use Rattle.law.proofs.Histories.{history_fits, handed_out_is_front, exhausted_lists_all}
 use Rattle.law.proofs.Combined.{union_and_intersection_count, complement_count, resumed_lists_the_rest}
 use Rattle.law.proofs.Refuses.{open_reason}
 
-pub close_law : {S : Type 0} (f : Filter S) → LawfulFilter f → (s : Search) (n : ℕ) → n ≡ s.count → CloseLaw f s n
-close_law f lawful s n q = record {
-  counted = λ g law lo hi y es h e. q ∙ ap (λ (z : Search). z.count) (sym e) ∙ (handed_out_is_front g f lo hi law lawful y es h).counted;
-  complete = λ g law lo hi es x. let c = exhausted_lists_all g f lo hi law lawful s es x in (c.0, q ∙ c.1);
-  resumed = λ g law lo hi y front e more h es x.
+pub close_law : {S : Type 0} (s : Search) (n : ℕ) → n ≡ s.count → CloseLaw S s n
+close_law s n q = record {
+  counted = λ g f law lawful lo hi y es h e. q ∙ ap (λ (z : Search). z.count) (sym e) ∙ (handed_out_is_front g f lo hi law lawful y es h).counted;
+  complete = λ g f law lawful lo hi es x. let c = exhausted_lists_all g f lo hi law lawful s es x in (c.0, q ∙ c.1);
+  resumed = λ g f law lawful lo hi y front e more h es x.
       subst (λ (m : ℕ). GoesOnElsewhere g f lo hi front e es m) (sym q) (resumed_lists_the_rest g f lo hi law lawful y front e more h s es x);
 }
 
-pub union_law : {A B : Type 0} (f : Filter A) (h : Filter B) → LawfulFilter f → LawfulFilter h → (i j k l : ℕ) (r : Bool) → r ≡ eqb (i + j) (k + l) → UnionLaw f h i j k l r
-union_law f h p p₁ i j k l r q g law lo hi n n₁ a b c d =
-    q ∙ eq-eqb (i + j) (k + l) (union_and_intersection_count g f h lo hi law p p₁ n n₁ i j k l a b c d)
+pub union_law : {A B : Type 0} (i j k l : Search) (r : Bool) → r ≡ eqb (i.count + j.count) (k.count + l.count) → UnionLaw A B i j k l r
+union_law i j k l r q = record {
+  agrees = λ g f h law p p₁ n n₁ lo hi es fs a b ls c rs d.
+      let sum = union_and_intersection_count g f h lo hi law p p₁ n n₁ i.count j.count k.count l.count (i, es, a, refl) (j, fs, b, refl) (k, ls, c, refl) (l, rs, d, refl) in
+      (q ∙ eq-eqb (i.count + j.count) (k.count + l.count) sum, sum);
+}
 
-pub complement_law : {A : Type 0} (f : Filter A) → LawfulFilter f → (i j k : ℕ) (r : Bool) → r ≡ eqb (i + j) k → ComplementLaw f i j k r
-complement_law f p i j k r q g law lo hi n a b c = q ∙ eq-eqb (i + j) k (complement_count g f lo hi law p n i j k a b c)
+pub complement_law : {A : Type 0} (i j k : Search) (r : Bool) → r ≡ eqb (i.count + j.count) k.count → ComplementLaw A i j k r
+complement_law i j k r q = record {
+  agrees = λ g f law p n lo hi es fs a b us c.
+      let sum = complement_count g f lo hi law p n i.count j.count k.count (i, es, a, refl) (j, fs, b, refl) (k, us, c, refl) in
+      (q ∙ eq-eqb (i.count + j.count) k.count sum, sum);
+}
 
 pub open_law : {S : Type 0} (g : Table) (f : Filter S) → Lawful g → (lo hi : BoundValue) (rows : List (Row S)) (area : Bytes) (o : Search ⊎ ℕ) (rows₁ : List (Row S)) (area₁ : Bytes) →
     o ≡ (open_of g f lo hi rows area).outcome → rows₁ ≡ (open_of g f lo hi rows area).rows → area₁ ≡ (open_of g f lo hi rows area).key_area → OpenLaw g f lo hi o rows₁ area₁
@@ -38,6 +47,19 @@ open_law {S} g f law lo hi rows area (inr n) rows₁ area₁ e p q =
 open_law {S} g f law lo hi rows area (inl s) rows₁ area₁ e p q =
     subst (λ (z : List (Row S)). History g f lo hi (record { search = s; rows = z; key_area = area₁ }) []) (sym p)
     (subst (λ (z : Bytes). History g f lo hi (record { search = s; rows = (open_of g f lo hi rows area).rows; key_area = z }) []) (sym q) (opened rows area s (sym e)))
+
+-- a call that walks from v on
+looked : {S : Type 0} (g : Table) (f : Filter S) → Lawful g → (x v : View S) → next_of g f x ≡ walk g f v → Looked g f v (next_of g f x).answer (next_of g f x).left
+looked g f law x v e = let (n, l, w) = always_bounded g f law v in (n, l, subst (λ (r : Result _). Walks g f n v r) (sym e) w)
+
+next_is_walk : {S : Type 0} (g : Table) (f : Filter S) (x : View S) → too_short x ≡ false → x.search.waiting ≡ None → next_of g f x ≡ walk g f (with_search (without_key x.search) x)
+unfolding next_of
+next_is_walk g f x sh w = rw (sh, w)
+
+next_walks_on : {S : Type 0} (g : Table) (f : Filter S) (x : View S) (t : ℕ) → too_short x ≡ false → x.search.waiting ≡ Some t → is_admitted x.search.upper [] ≡ true → verdict_at f f.start ≡ false →
+    next_of g f x ≡ walk g f (with_search (without_waiting (without_key x.search)) x)
+unfolding next_of
+next_walks_on g f x t sh w i v = rw (sh, w, i, v)
 
 goes_on_of : {S : Type 0} (g : Table) (f : Filter S) → Lawful g → LawfulFilter f → (x : View S) → NextLaw g f x (next_of g f x).answer (next_of g f x).left
 goes_on_of g f law lawful x = record {
@@ -52,7 +74,11 @@ goes_on_of g f law lawful x = record {
         counted_after = (handed_out_is_front g f lo hi law lawful (next_of g f x).left (es ++ given_out (next_of g f x)) (next h x sh sv)).counted;
         exhausted = λ e. record { before = y; call = x; past = h; long_enough = sh; serves = sv; ended = e; left = refl };
       };
-  turned_away = λ lo hi y es h sh e. (((handed_out_is_front g f lo hi law lawful y es h).narrow x sh).0, next_refused h x e sh);
+  areas_too_short = λ lo hi y es h sh e. (((handed_out_is_front g f lo hi law lawful y es h).narrow x sh).0, next_refused h x e sh);
+  still_fits = λ lo hi y es h. history_fits g f lo hi law lawful y es h;
+  standing = next_tells g f x;
+  looks_bounded = λ sh w. looked g f law x (with_search (without_key x.search) x) (next_is_walk g f x sh w);
+  later_looks_bounded = λ t sh w i v. looked g f law x (with_search (without_waiting (without_key x.search)) x) (next_walks_on g f x t sh w i v);
 }
 
 pub next_law : {S : Type 0} (g : Table) (f : Filter S) → Lawful g → LawfulFilter f → (x : View S) (a : Answer S) (z : View S) → a ≡ (next_of g f x).answer → z ≡ (next_of g f x).left → NextLaw g f x a z
@@ -60,7 +86,12 @@ next_law g f law lawful x a z p q =
     subst (λ (w : View _). NextLaw g f x a w) (sym q) (subst (λ (b : Answer _). NextLaw g f x b (next_of g f x).left) (sym p) (goes_on_of g f law lawful x))
 
 pub key_law : {S : Type 0} (x : View S) (p : Part) → p ≡ key_of x → KeyLaw x p
-key_law x p q g f law lawful lo hi y es h sh sv st =
-    let o = handed_out_is_front g f lo hi law lawful y es h in
-    let (front, e, same, k) = o.stood (ap (λ (s : Search). s.standing) (sym sv.same) ∙ st) in
-    (front, e, same, q ∙ k x sh sv)
+unfolding key_of
+key_law x p q = record {
+  stands = λ g f law lawful lo hi y es h sh sv st.
+      let o = handed_out_is_front g f lo hi law lawful y es h in
+      let (front, e, same, k) = o.stood (ap (λ (s : Search). s.standing) (sym sv.same) ∙ st) in
+      (front, e, same, q ∙ k x sh sv);
+  areas_too_short = λ sh. q ∙ rw sh;
+  none_stands = λ sh st. q ∙ rw (sh, st);
+}

@@ -1,23 +1,21 @@
 -- With spare enough, and totals and keys that fit, a search comes to its end. Assumes nothing.
-use Rattle.std.proofs.Common.{◌≡◌, ℕ, zero, suc, ◌+◌, ◌-◌, ◌<◌, ◌≤◌, Bool, true, false, cond, eqb, List, [], ◌∷◌, ◌++◌, length, take, set, Some, None, Option, sym, refl, ap, ◌∙◌, subst, inl, append-nil, arith, length-append, length-set, length-take-le, le-ltb}
+use Rattle.std.proofs.Common.{◌≡◌, ℕ, zero, suc, ◌+◌, ◌<◌, ◌≤◌, Bool, true, false, cond, eqb, List, [], ◌∷◌, ◌++◌, length, set, Some, None, Option, sym, refl, ap, ◌∙◌, subst, inl, append-nil, arith, length-append, length-set}
 use Rattle.bound.specs.Value.{BoundValue}
 use Rattle.byte_strings.specs.Order.{Bytes}
 use Rattle.filter.specs.Filter.{Filter, Lawful as LawfulFilter, verdict_at}
 use Rattle.graph.specs.Table.{Lawful, Table}
 use Rattle.law.specs.Values.{Answer, End, Handed, Refused, Result, Search, View, at_depth, byte_at, handed_out, is_admitted, most_keys, onward, output_at, target_at, too_short, with_search, without_key, without_waiting}
 use Rattle.law.specs.Theorems.{Reason, stack_full, key_area_full, path_too_large, total_too_large, count_full, Fits, TotalsFit, AreasSuffice, Exhausted, CanBeExhausted}
-use Rattle.law.specs.Next.{Done, More, Move, Walks, begin, deeper, goes, next_of, step, stops, walk, written}
+use Rattle.law.specs.Next.{Done, More, Move, Walks, begin, deeper, goes, next_of, top_look, stops, walk, written}
 use Rattle.graph.specs.Keys.{Leads}
 use Rattle.law.proofs.Members.{in_right}
 use Rattle.law.specs.Entries.{◌∈◌, Entry, Lists}
 use Rattle.law.specs.History.{History, Serves, entries, given_out, next}
 use Rattle.law.proofs.Positions.{LeadsBy, by_positions}
 use Rattle.law.proofs.Positions.{sinking}
-use Rattle.law.proofs.Step.{Outcome, ended, removed, refused, beyond, given, passed, outcome, top}
+use Rattle.law.proofs.Outcomes.{Outcome, ended, removed, refused, beyond, given, passed, outcome, top}
 use Rattle.law.proofs.Looks.{always_bounded}
-use Rattle.law.proofs.Invariant.{Stands, row}
-use Rattle.law.proofs.Walking.{Inv}
-use Rattle.law.proofs.Histories.{kept, handed_out_is_front}
+use Rattle.law.proofs.Histories.{history_fits, handed_out_is_front}
 
 pub record SameSize {S : Type 0} (x y : View S) : Type 0 where
   pub rows : length y.rows ≡ length x.rows
@@ -54,9 +52,9 @@ module _ {S : Type 0} (g : Table) (f : Filter S) (law : Lawful g) where
   move_size x m (passed d e w u c eq) = subst (λ (n : Move S). SameSize x (view_of n)) (sym eq) (grown_same x d)
 
   walk_size : (n : ℕ) (x : View S) (r : Result S) → Walks g f n x r → SameSize x r.left
-  walk_size n x r (stops e) = subst (λ (n : Move S). SameSize x (view_of n)) e (move_size x (step g f x) (outcome g f x))
+  walk_size n x r (stops e) = subst (λ (n : Move S). SameSize x (view_of n)) e (move_size x (top_look g f x) (outcome g f x))
   walk_size n x r (goes {n = i} {y = y} e w) =
-      let a = subst (λ (n : Move S). SameSize x (view_of n)) e (move_size x (step g f x) (outcome g f x)) in
+      let a = subst (λ (n : Move S). SameSize x (view_of n)) e (move_size x (top_look g f x) (outcome g f x)) in
       let b = walk_size i y r w in
       record { rows = b.rows ∙ a.rows; key_area = b.key_area ∙ a.key_area }
 
@@ -87,26 +85,6 @@ module _ {S : Type 0} (g : Table) (f : Filter S) (law : Lawful g) where
       at_all false (Some t) = firsts t (is_admitted x.search.upper []) (verdict_at f f.start) (eqb x.search.count most_keys)
 
   module _ (lo hi : BoundValue) (lawful : LawfulFilter f) where
-    -- no deeper than the root is high
-    shallow : (y : View S) (es : List (Entry S)) → Inv g f lo hi y es → y.search.depth ≤ g.height g.root + 1
-    shallow y es i = go y.search.depth i.stands
-      where
-        go : (d : ℕ) → Stands g f d y.rows y.key_area → d ≤ g.height g.root + 1
-        go zero s = omega arith
-        go (suc d) s =
-            let h = leads_height g law g.root g.first_total (take d y.key_area) (row g f y.rows d).node (row g f y.rows d).total (s.reached d (omega arith)).leads in
-            let l = length-take-le d y.key_area (let z = s.spelt in omega arith) in
-            omega arith
-
-    roomy : (y : View S) (es : List (Entry S)) → Inv g f lo hi y es → AreasSuffice g y → too_short y ≡ false
-    roomy y es i a =
-        let s = shallow y es i in
-        let r = a.rows in
-        let b = a.bytes in
-        let p = le-ltb (length y.rows) y.search.depth (omega arith) in
-        let q = le-ltb (length y.key_area) (y.search.depth - 1) (omega arith) in
-        rw (p, q)
-
     module _ (fit : TotalsFit g) (few : (fs : List (Entry S)) → Lists g f lo hi fs → length fs < most_keys) where
       abbrev Ended : Type 0
       Ended = (s : Search) × (fs : List (Entry S)) × Exhausted g f lo hi s fs
@@ -124,11 +102,8 @@ module _ {S : Type 0} (g : Table) (f : Filter S) (law : Lawful g) where
           record { rows = omega arith; bytes = omega arith }
 
       module _ (y : View S) (es : List (Entry S)) (h : History g f lo hi y es) (am : AreasSuffice g y) where
-        inv : Inv g f lo hi y es
-        inv = kept g f lo hi law lawful y es h
-
         spare : too_short y ≡ false
-        spare = roomy y es inv am
+        spare = history_fits g f lo hi law lawful y es h
 
         gone_on : History g f lo hi (next_of g f y).left (es ++ given_out (next_of g f y))
         gone_on = next h y spare (serves_itself y)
@@ -142,7 +117,7 @@ module _ {S : Type 0} (g : Table) (f : Filter S) (law : Lawful g) where
         no_reason : (rest : List (Entry S)) → Lists g f lo hi (es ++ rest) → (c : ℕ) → (next_of g f y).answer ≡ Refused c → Reason g (next_of g f y).left rest c → ⊥
         no_reason rest whole c e (stack_full w m u p i l) = let k = path_short w m u p in let a = (ample_still y am).rows in omega arith
         no_reason rest whole c e (key_area_full w m u p i l) = let k = path_short w m u p in let a = (ample_still y am).bytes in omega arith
-        no_reason rest whole c e (path_too_large w m u p l) = let b = fit.paths w m u p in omega arith
+        no_reason rest whole c e (path_too_large w m u p d l) = let b = fit.paths w m u p in omega arith
         no_reason rest whole c e (total_too_large x later p l) =
             let b = (whole.exact x).0 (in_right x es rest (subst (λ (z : List (Entry S)). x ∈ z) (sym p) (inl refl))) in
             let k = fit.keys x.key x.total b.is_key in

@@ -1,5 +1,5 @@
 -- The law of the search over every history, and what follows from it. Assumes nothing.
-use Rattle.std.proofs.Common.{◌≡◌, ℕ, ◌-◌, Bool, true, false, cond, List, [], ◌∷◌, ◌++◌, length, take, Option, sym, refl, ap, ◌∙◌, subst, append_assoc, append-nil, arith}
+use Rattle.std.proofs.Common.{◌≡◌, ℕ, ◌-◌, Bool, true, false, cond, List, [], ◌∷◌, ◌++◌, length, take, Option, sym, refl, ap, ◌∙◌, subst, append_assoc, append-nil, arith, le-ltb}
 use mathlib.Core.List.{append_cancel_left}
 use Rattle.bound.specs.Value.{BoundValue}
 use Rattle.byte_strings.specs.Order.{Bytes}
@@ -38,6 +38,16 @@ module _ {S : Type 0} (g : Table) (f : Filter S) (lo hi : BoundValue) (law : Law
   kept y es (key_refused h x e sh) = kept y es h
   kept y es (key {y = z} h x sh sv) = serve g f lo hi z x es (kept z es h) sh sv
 
+  -- the areas that a history left are long enough for it
+  pub history_fits : (y : View S) (es : List (Entry S)) → History g f lo hi y es → too_short y ≡ false
+  history_fits y es h =
+      let s = (kept y es h).stands in
+      let b = s.spelt in
+      let r = s.held in
+      let p = le-ltb (length y.rows) y.search.depth (omega arith) in
+      let q = le-ltb (length y.key_area) (y.search.depth - 1) (omega arith) in
+      rw (p, q)
+
   -- the answer of `next` fits what is owed
   fitting : (es rest : List (Entry S)) (a : Answer S) (y : View S) → Lists g f lo hi (es ++ rest) → Good g f lo hi es a y → Fits g a y rest
   fitting es rest (Refused c) y l w = reasoned w.told
@@ -48,7 +58,7 @@ module _ {S : Type 0} (g : Table) (f : Filter S) (lo hi : BoundValue) (law : Law
       reasoned : {c : ℕ} → Cause g f lo hi es y c → Reason g y rest c
       reasoned (no_row w m u p i h) = stack_full w m u p i h
       reasoned (no_byte w m u p i h) = key_area_full w m u p i h
-      reasoned (large_path w m u p h) = path_too_large w m u p h
+      reasoned (large_path w m u p d h) = path_too_large w m u p d h
       reasoned (large_total e n h) = let (later, p) = head_of e n in total_too_large e later p h
       reasoned (full_count e n h) = let (later, p) = head_of e n in count_full e later p h
   fitting es rest End y l w =

@@ -11,7 +11,7 @@ use Rattle.graph.specs.Table.{Lawful, Table}
 use Rattle.law.specs.Entries.{Belongs, Entry}
 use Rattle.law.proofs.Positions.{LeadsBy, by_positions, of_positions}
 use Rattle.law.specs.declared.Row.{Row}
-use Rattle.law.specs.Values.{byte_at, is_admitted, key_total, onward, step_byte, target_at}
+use Rattle.law.specs.Values.{byte_at, is_admitted, key_total, onward, leading_byte, target_at}
 use Rattle.law.specs.Next.{deeper, due, leads_nowhere, root_row}
 use Rattle.bound.proofs.Words.{to_said}
 use Rattle.law.proofs.Order.{upper_down, upper_of, reached_said, none_below}
@@ -36,6 +36,7 @@ module _ {S : Type 0} (g : Table) (f : Filter S) where
     pub reached : (i : ℕ) → i < d → Reached (take i area) (row rows i)
     pub gone : (i : ℕ) → suc i < d → Gone (row rows i) (get_or area i 0)
     pub spelt : d ≤ suc (length area)
+    pub held : d ≤ length rows
 
   abbrev pub ToCome : ℕ → List (Row S) → Bytes → Bytes → Type 0
   ToCome zero rows area k = ⊥
@@ -46,6 +47,7 @@ module _ {S : Type 0} (g : Table) (f : Filter S) where
     reached = λ i h. s.reached i (omega arith);
     gone = λ i h. s.gone i (omega arith);
     spelt = let z = s.spelt in omega arith;
+    held = let z = s.held in omega arith;
   }
 
   module _ (lo hi : BoundValue) (law : Lawful g) (lawful : LawfulFilter f) where
@@ -99,7 +101,7 @@ module _ {S : Type 0} (g : Table) (f : Filter S) where
             subst (λ (v : Bytes). Ahead g v r.node r.position k) (sym grown)
             (off_back g law w r.node r.position l.node p k m.1 (subst (λ (q : ℕ). Ahead g w l.node q k) m.2 a))
 
-    -- the writes of step 3
+    -- the writes of a look
     module _ (d : ℕ) (rows : List (Row S)) (area : Bytes) (s : Stands (suc d) rows area) (here : (row rows d).position < g.len (row rows d).node)
         (row_free : suc d < length rows) (byte_free : d < length area) where
       abbrev r : Row S
@@ -109,7 +111,7 @@ module _ {S : Type 0} (g : Table) (f : Filter S) where
       w = take d area
 
       abbrev c : ℕ
-      c = step_byte g r
+      c = leading_byte g r
 
       abbrev pub rows₂ : List (Row S)
       rows₂ = set (set rows d (onward r)) (suc d) (deeper g f r)
@@ -144,7 +146,7 @@ module _ {S : Type 0} (g : Table) (f : Filter S) where
       }
 
       pub stands_more : Stands (suc (suc d)) rows₂ area₂
-      stands_more = record { reached = reached₂; gone = gone₂; spelt = rw length-set (omega arith) }
+      stands_more = record { reached = reached₂; gone = gone₂; spelt = rw length-set (omega arith); held = rw (length-set, length-set) (omega arith) }
         where
           reached₂ : (i : ℕ) → i < suc (suc d) → Reached (take i area₂) (row rows₂ i)
           reached₂ i h = go (dec_lt i d) (ℕ_discrete i d)

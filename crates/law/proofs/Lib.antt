@@ -5,8 +5,9 @@ pub mod Unique
 pub mod Tree
 pub mod Kept
 pub mod Resume
-pub mod Step
+pub mod Outcomes
 pub mod Looks
+pub mod Stands
 pub mod Ahead
 pub mod Frame
 pub mod Invariant

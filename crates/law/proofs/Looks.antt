@@ -5,9 +5,9 @@ use Rattle.filter.specs.Filter.{Filter}
 use Rattle.graph.specs.Table.{Lawful, Table}
 use Rattle.law.specs.Theorems.{AlwaysBounded}
 use Rattle.law.specs.Values.{Answer, Result, View, onward, target_at}
-use Rattle.law.specs.Next.{Done, More, Move, Walks, after, all_looks, deeper, goes, looking, looks, looks_along, root_row, step, stops, walk}
+use Rattle.law.specs.Next.{Done, More, Move, Walks, after, all_looks, deeper, goes, looking, looks, looks_along, root_row, top_look, stops, walk}
 use Rattle.law.specs.declared.Row.{Row}
-use Rattle.law.proofs.Step.{Outcome, ended, removed, refused, beyond, given, passed, outcome, never, more_same}
+use Rattle.law.proofs.Outcomes.{Outcome, ended, removed, refused, beyond, given, passed, outcome, never, more_same}
 use Rattle.law.proofs.Positions.{sinking}
 
 module _ {S : Type 0} (g : Table) (f : Filter S) (law : Lawful g) where
@@ -51,7 +51,7 @@ module _ {S : Type 0} (g : Table) (f : Filter S) (law : Lawful g) where
       let n : d ≢ i = omega arith in
       rw (get_or-set_other rows i d r (root_row g f) n, e)
 
-  pub falls : (x y : View S) → Outcome g f x (step g f x) → step g f x ≡ More y → all_looks g f y.search.depth y.rows < all_looks g f x.search.depth x.rows
+  pub falls : (x y : View S) → Outcome g f x (top_look g f x) → top_look g f x ≡ More y → all_looks g f y.search.depth y.rows < all_looks g f x.search.depth x.rows
   falls x y (ended e m) h = absurd (never (sym m ∙ h))
   falls x y (removed d e s m) h =
       let r = get_or x.rows d (root_row g f) in
@@ -65,13 +65,13 @@ module _ {S : Type 0} (g : Table) (f : Filter S) (law : Lawful g) where
       let rows₁ = set x.rows d (onward r) in
       let p = cost_more r.node r.position w.present in
       let n : d ≢ suc d = omega arith in
-      let room₁ : suc d < length rows₁ = rw length-set w.row_free in
-      let room₂ : d < length x.rows = let q = w.row_free in omega arith in
+      let free₁ : suc d < length rows₁ = rw length-set w.row_free in
+      let free₂ : d < length x.rows = let q = w.row_free in omega arith in
       rw (← (more_same (sym m ∙ h)), e)
       (rw (
-        get_or-set_same rows₁ (suc d) (deeper g f r) (root_row g f) room₁,
+        get_or-set_same rows₁ (suc d) (deeper g f r) (root_row g f) free₁,
         get_or-set_other rows₁ (suc d) d (deeper g f r) (root_row g f) n,
-        get_or-set_same x.rows d (onward r) (root_row g f) room₂,
+        get_or-set_same x.rows d (onward r) (root_row g f) free₂,
         all_looks_set d (suc d) rows₁ (deeper g f r) (omega arith),
         all_looks_set d d x.rows (onward r) (omega arith),
       ) (omega arith))
@@ -80,10 +80,10 @@ module _ {S : Type 0} (g : Table) (f : Filter S) (law : Lawful g) where
   enough : (n : ℕ) (x : View S) → all_looks g f x.search.depth x.rows < n → (m : ℕ) × (m ≤ suc (all_looks g f x.search.depth x.rows)) × Walks g f m x (looking g f n x)
   unfolding looking
   enough zero x h = absurd (omega arith)
-  enough (suc n) x h = go (step g f x) refl (λ y e. enough n y (let l = falls x y (outcome g f x) e in omega arith))
+  enough (suc n) x h = go (top_look g f x) refl (λ y e. enough n y (let l = falls x y (outcome g f x) e in omega arith))
     where
-      go : (m : Move S) → step g f x ≡ m →
-          ((y : View S) → step g f x ≡ More y → (i : ℕ) × (i ≤ suc (all_looks g f y.search.depth y.rows)) × Walks g f i y (looking g f n y)) →
+      go : (m : Move S) → top_look g f x ≡ m →
+          ((y : View S) → top_look g f x ≡ More y → (i : ℕ) × (i ≤ suc (all_looks g f y.search.depth y.rows)) × Walks g f i y (looking g f n y)) →
           (i : ℕ) × (i ≤ suc (all_looks g f x.search.depth x.rows)) × Walks g f i x (after (looking g f n) m)
       go (Done a y) e ih = (1, omega arith, stops e)
       go (More y) e ih = let (i, l, w) = ih y e in let z = falls x y (outcome g f x) e in (suc i, omega arith, goes e w)
@@ -104,8 +104,8 @@ one_result g f x m n r s (goes {n = i} {y = y} e w) (goes {n = j} {y = z} d v) =
 -- a look leaves the result of the walk alone, and lowers the number of looks that are left
 abbrev pub Unfolds : Type 0 → Type 0
 Unfolds S = (g : Table) (f : Filter S) → Lawful g → (x : View S) →
-    ((y : View S) → step g f x ≡ More y → (walk g f x ≡ walk g f y) × (all_looks g f y.search.depth y.rows < all_looks g f x.search.depth x.rows)) ×
-    ((a : Answer S) (y : View S) → step g f x ≡ Done a y → walk g f x ≡ record { answer = a; left = y })
+    ((y : View S) → top_look g f x ≡ More y → (walk g f x ≡ walk g f y) × (all_looks g f y.search.depth y.rows < all_looks g f x.search.depth x.rows)) ×
+    ((a : Answer S) (y : View S) → top_look g f x ≡ Done a y → walk g f x ≡ record { answer = a; left = y })
 
 pub unfolds : {S : Type 0} → Unfolds S
 unfolds {S} g f law x = (

@@ -80,6 +80,7 @@ module _ {S : Type 0} (g : Table) (f : Filter S) where
         reached = λ i h. go i h (ℕ_discrete i d);
         gone = λ i h. rw (old_row i (omega arith)) (l.gone i (omega arith));
         spelt = omega arith;
+        held = rw length-set (omega arith);
       }
         where
           go : (i : ℕ) → i < suc d → Dec (i ≡ d) → Reached g f (take i area) (row g f (set rows d r) i)

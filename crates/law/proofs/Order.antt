@@ -46,9 +46,6 @@ from_up (excluded c) a b s t = transitive c a b t s
 pub upper_down : (upper : BoundValue) (a b : Bytes) → a ≺ b → T (is_admitted upper b) → T (is_admitted upper a)
 upper_down upper a b s t = admitted upper a (to_down upper a b s (admitted_said upper b t))
 
-pub lower_up : (lower : BoundValue) (a b : Bytes) → a ≺ b → T (is_reached lower a) → T (is_reached lower b)
-lower_up lower a b s t = reached lower b (from_up lower a b s (reached_said lower a t))
-
 pub upper_of : {lower upper : BoundValue} {k : Bytes} → Within lower upper k → T (is_admitted upper k)
 upper_of {upper = upper} {k = k} w = admitted upper k w.to
 

@@ -26,7 +26,7 @@ abbrev pub LeadsBy : Table → ℕ → ℕ → Bytes → ℕ → ℕ → Type 0
 LeadsBy g n t [] m u = (m ≡ n) × (u ≡ t)
 LeadsBy g n t (b ∷ w) m u = (p : ℕ) × (p < g.len n) × (byte_at g n p ≡ b) × LeadsBy g (target_at g n p) (t + output_at g n p) w m u
 
-inside : (g : Table) → Lawful g → (n p : ℕ) (x : Transition) → g.transition n p ≡ Some x → p < g.len n
+pub inside : (g : Table) → Lawful g → (n p : ℕ) (x : Transition) → g.transition n p ≡ Some x → p < g.len n
 inside g law n p x e = go (dec_lt p (g.len n))
   where
     go : Dec (p < g.len n) → p < g.len n

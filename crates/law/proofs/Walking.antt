@@ -7,14 +7,14 @@ use Rattle.graph.specs.Keys.{Key}
 use Rattle.graph.specs.Table.{Lawful, Table}
 use Rattle.law.specs.Values.{Answer, End, Handed, Refused, Result, Search, View, at_depth, byte_at, handed_out, is_admitted, key_total, most, most_keys, too_short, with_search, without_key, without_waiting}
 use Rattle.law.specs.Entries.{Belongs, Entry, Lists}
-use Rattle.law.specs.Next.{Done, More, Move, Walks, begin, deeper, due, goes, grown, next_of, root_row, step, stops, walk, written}
+use Rattle.law.specs.Next.{Done, More, Move, Walks, begin, deeper, due, goes, grown, next_of, root_row, top_look, stops, walk, written}
 use Rattle.law.specs.declared.Row.{Row}
 use Rattle.law.specs.History.{Serves, entries}
 use Rattle.bound.proofs.Words.{to_said}
 use Rattle.graph.specs.Keys.{Leads}
 use Rattle.law.proofs.Positions.{of_positions}
 use Rattle.law.proofs.Order.{upper_down, upper_of, reached_said}
-use Rattle.law.proofs.Step.{Writes, Halts, rows_full, bytes_full, sum_large, total_large, no_count_left, Outcome, ended, removed, refused, beyond, given, passed, outcome, top}
+use Rattle.law.proofs.Outcomes.{Writes, Halts, rows_full, bytes_full, sum_large, total_large, no_count_left, Outcome, ended, removed, refused, beyond, given, passed, outcome, top}
 use Rattle.law.proofs.Looks.{always_bounded}
 use Rattle.law.proofs.Ahead.{Ahead, leads_on}
 use Rattle.law.proofs.Frame.{Frame, frame_same, frame_hand, owed}
@@ -68,7 +68,7 @@ module _ {S : Type 0} (g : Table) (f : Filter S) (lo hi : BoundValue) where
   pub data Cause (es : List (Entry S)) (y : View S) : ℕ → Type 0 where
     no_row : (w : Bytes) (m u : ℕ) → Leads g g.root g.first_total w m u → length w ≡ y.search.depth → length y.rows ≤ length w → Cause es y 14
     no_byte : (w : Bytes) (m u : ℕ) → Leads g g.root g.first_total w m u → length w ≡ y.search.depth → length y.key_area < length w → Cause es y 15
-    large_path : (w : Bytes) (m u : ℕ) → Leads g g.root g.first_total w m u → most < u → Cause es y 16
+    large_path : (w : Bytes) (m u : ℕ) → Leads g g.root g.first_total w m u → length w ≡ y.search.depth → most < u → Cause es y 16
     large_total : (e : Entry S) → ComesNext es e → most < e.total → Cause es y 16
     full_count : (e : Entry S) → ComesNext es e → y.search.count ≡ most_keys → Cause es y 17
 
@@ -94,7 +94,7 @@ module _ {S : Type 0} (g : Table) (f : Filter S) (lo hi : BoundValue) where
         let (later, l) = owed g f lo hi law P (es ++ (e ∷ [])) fr in
         (later, subst (λ (z : List (Entry S)). Lists g f lo hi z) (append_assoc es (e ∷ []) later) l)
 
-    -- a step is refused for a cause in the areas, in the graph or in the count
+    -- a look is refused for a cause in the areas, in the graph or in the count
     module _ (x : View S) (d : ℕ) (e : x.search.depth ≡ suc d) (es : List (Entry S)) (c : Between x es) where
       abbrev r : Row S
       r = top g f x d
@@ -128,7 +128,7 @@ module _ {S : Type 0} (g : Table) (f : Filter S) (lo hi : BoundValue) where
       cause : (n : ℕ) → Halts g f x d r n → Cause es x n
       cause n (rows_full p h) = no_row w (deeper g f r).node (deeper g f r).total (led p) (long ∙ sym e) (let l = long in omega arith)
       cause n (bytes_full p h) = no_byte w (deeper g f r).node (deeper g f r).total (led p) (long ∙ sym e) (let l = long in omega arith)
-      cause n (sum_large p h) = large_path w (deeper g f r).node (deeper g f r).total (led p) h
+      cause n (sum_large p h) = large_path w (deeper g f r).node (deeper g f r).total (led p) (long ∙ sym e) h
       cause n (total_large k u h) = large_total _ (is_next k u) h
       cause n (no_count_left k u h) = full_count _ (is_next k u) h
 
@@ -153,7 +153,7 @@ module _ {S : Type 0} (g : Table) (f : Filter S) (lo hi : BoundValue) where
         let z = with_search (at_depth 0 y.search) y in
         subst (Moved es) (sym eq) (record {
           inv = nothing_more z es (between_inv z es (record {
-            stands = record { reached = λ i h. absurd (omega arith); gone = λ i h. absurd (omega arith); spelt = omega arith };
+            stands = record { reached = λ i h. absurd (omega arith); gone = λ i h. absurd (omega arith); spelt = omega arith; held = omega arith };
             bound = c.bound;
             counted = c.counted;
             frame = exceed g f lo hi law lawful d x.rows x.key_area s w.present w.row_free w.byte_free es fr
@@ -201,8 +201,8 @@ module _ {S : Type 0} (g : Table) (f : Filter S) (lo hi : BoundValue) where
         })
 
     walked : (n : ℕ) (x : View S) (r : Result S) → Walks g f n x r → (es : List (Entry S)) → Between x es → Good es r.answer r.left
-    walked n x r (stops {a = a} {y = y} e) es c = subst (Moved es) e (moved x (step g f x) es c (outcome g f x))
-    walked n x r (goes {n = i} {y = y} e w) es c = walked i y r w es (subst (Moved es) e (moved x (step g f x) es c (outcome g f x)))
+    walked n x r (stops {a = a} {y = y} e) es c = subst (Moved es) e (moved x (top_look g f x) es c (outcome g f x))
+    walked n x r (goes {n = i} {y = y} e w) es c = walked i y r w es (subst (Moved es) e (moved x (top_look g f x) es c (outcome g f x)))
 
     walks_well : (x : View S) (es : List (Entry S)) → Between x es → Good es (walk g f x).answer (walk g f x).left
     walks_well x es c = let (n, l, w) = always_bounded g f law x in walked n x (walk g f x) w es c
@@ -252,7 +252,7 @@ module _ {S : Type 0} (g : Table) (f : Filter S) (lo hi : BoundValue) where
       past_upper : is_admitted x.search.upper [] ≡ false → G (record { answer = End; left = with_search (at_depth 0 z) y })
       past_upper p = record {
         inv = nothing_more (with_search (at_depth 0 z) y) es (between_inv (with_search (at_depth 0 z) y) es (record {
-          stands = record { reached = λ j h. absurd (omega arith); gone = λ j h. absurd (omega arith); spelt = omega arith };
+          stands = record { reached = λ j h. absurd (omega arith); gone = λ j h. absurd (omega arith); spelt = omega arith; held = omega arith };
           bound = i.bound;
           counted = i.counted;
           frame = frame_same g f lo hi (Pending (Some t) x.search.depth x.rows x.key_area) (ToCome g f 0 x.rows x.key_area) es waiting_frame forth (λ k q. absurd q);
@@ -351,11 +351,12 @@ module _ {S : Type 0} (g : Table) (f : Filter S) (lo hi : BoundValue) where
         let l : i < d - 1 = omega arith in
         sym (get_or-take (d - 1) area₂ i 0 l) ∙ ap (λ (l : Bytes). get_or l i 0) same_bytes ∙ get_or-take (d - 1) area i 0 l
 
-    stands_kept : d ≤ suc (length area₂) → Stands g f d rows area → Stands g f d rows₂ area₂
-    stands_kept m s = record {
+    stands_kept : d ≤ suc (length area₂) → d ≤ length rows₂ → Stands g f d rows area → Stands g f d rows₂ area₂
+    stands_kept m n s = record {
       reached = λ i h. rw (row_kept i h, key_kept i h) (s.reached i h);
       gone = λ i h. rw (row_kept i (omega arith), byte_kept i h) (s.gone i h);
       spelt = m;
+      held = n;
     }
 
   to_come_kept : (d : ℕ) (rows rows₂ : List (Row S)) (area area₂ : Bytes) → take d rows₂ ≡ take d rows → take (d - 1) area₂ ≡ take (d - 1) area →
@@ -373,7 +374,7 @@ module _ {S : Type 0} (g : Table) (f : Filter S) (lo hi : BoundValue) where
 
   pub serve : (y x : View S) (es : List (Entry S)) → Inv y es → too_short x ≡ false → Serves y x → Inv x es
   serve y x es i sh sv = subst (λ (z : View S). Inv z es) (sym there) (record {
-    stands = stands_kept y.search.depth y.rows x.rows y.key_area x.key_area sv.rows_kept sv.bytes_kept spare i.stands;
+    stands = stands_kept y.search.depth y.rows x.rows y.key_area x.key_area sv.rows_kept sv.bytes_kept spare.0 spare.1 i.stands;
     bound = i.bound;
     counted = i.counted;
     frame = subst (λ (P : Bytes → Type 0). Frame g f lo hi P es)
@@ -385,9 +386,10 @@ module _ {S : Type 0} (g : Table) (f : Filter S) (lo hi : BoundValue) where
       there : x ≡ record { search = y.search; rows = x.rows; key_area = x.key_area }
       there = λ j. record { search = sv.same j; rows = x.rows; key_area = x.key_area }
 
-      spare : y.search.depth ≤ suc (length x.key_area)
+      spare : (y.search.depth ≤ suc (length x.key_area)) × (y.search.depth ≤ length x.rows)
       spare =
           let n = neither (ltb (length x.rows) x.search.depth) (ltb (length x.key_area) (x.search.depth - 1)) sh in
+          let r = ltb-false (length x.rows) x.search.depth n.0 in
           let l = ltb-false (length x.key_area) (x.search.depth - 1) n.1 in
           let e = ap (λ (s : Search). s.depth) sv.same in
-          omega arith
+          (omega arith, omega arith)

@@ -5,7 +5,7 @@ use Rattle.bound.specs.Value.{BoundValue}
 use Rattle.graph.specs.Table.{Table}
 use Rattle.filter.specs.Filter.{Filter, verdict_at}
 use Rattle.law.specs.declared.Row.{Row}
-use Rattle.law.specs.Values.{Search, View, Answer, Handed, End, Refused, Part, Standing, NoPart, Result, most, most_keys, at_depth, without_key, without_waiting, handed_out, with_search, onward, too_short, is_admitted, output_at, target_at, step_byte, key_total}
+use Rattle.law.specs.Values.{Search, View, Answer, Handed, End, Refused, Part, Standing, NoPart, Result, most, most_keys, at_depth, without_key, without_waiting, handed_out, with_search, onward, too_short, is_admitted, output_at, target_at, leading_byte, key_total}
 
 -- `key`: that part of the key area which the standing key fills, or a refusal
 unfoldable pub key_of : {S : Type 0} → View S → Part
@@ -44,7 +44,7 @@ module _ {S : Type 0} (g : Table) (f : Filter S) where
     node = target_at g r.node r.position;
     position = 0;
     total = r.total + output_at g r.node r.position;
-    state = f.accept r.state (step_byte g r);
+    state = f.accept r.state (leading_byte g r);
   }
 
   -- no key lies this way: the transition is absent, or the filter cannot match
@@ -55,18 +55,18 @@ module _ {S : Type 0} (g : Table) (f : Filter S) where
   abbrev pub due : BoundValue → Bytes → Row S → Bool
   due upper k r = is_admitted upper k && (g.is_final r.node && verdict_at f r.state)
 
-  -- at depth d + 1, with the top row r: the key that the step leads to, and what it writes
+  -- at depth d + 1, with the top row r: the key that the look leads to, and what it writes
   abbrev pub grown : View S → ℕ → Row S → Bytes
-  grown x d r = take d x.key_area ++ (step_byte g r ∷ [])
+  grown x d r = take d x.key_area ++ (leading_byte g r ∷ [])
 
   abbrev pub written : View S → ℕ → Row S → View S
   written x d r = record {
     search = at_depth (suc (suc d)) x.search;
     rows = slice_set (slice_set x.rows d (onward r)) (suc d) (deeper r);
-    key_area = slice_set x.key_area d (step_byte g r);
+    key_area = slice_set x.key_area d (leading_byte g r);
   }
 
-  -- steps 4 and 5, after the writes: the key k ends at row r
+  -- after the writes: the end, or the key k, which ends at row r
   abbrev pub arrived : View S → ℕ → Row S → Bytes → Move S
   arrived y d r k =
       cond (is_admitted y.search.upper k)
@@ -75,7 +75,7 @@ module _ {S : Type 0} (g : Table) (f : Filter S) where
       (More y))
       (Done End (with_search (at_depth 0 y.search) y))
 
-  -- step 3: the refusals 14 to 17, in their order, before any write
+  -- the refusals 14 to 17, in their order, before any write
   abbrev pub descend : View S → ℕ → Row S → Move S
   descend x d r =
       cond (nat_le (length x.rows) (suc d)) (Done (Refused 14) x)
@@ -85,15 +85,15 @@ module _ {S : Type 0} (g : Table) (f : Filter S) where
       (cond (due x.search.upper (grown x d r) (deeper r) && x.search.count == most_keys) (Done (Refused 17) x)
       (arrived (written x d r) d (deeper r) (grown x d r))))))
 
-  -- steps 1 and 2
+  -- no row, or a row that is taken off, or one that leads on
   abbrev pub look : View S → ℕ → Move S
   look x zero = Done End x
   look x (suc d) =
       let r = get_or x.rows d root_row in
       cond (leads_nowhere r) (More (with_search (at_depth d x.search) x)) (descend x d r)
 
-  abbrev pub step : View S → Move S
-  step x = look x x.search.depth
+  abbrev pub top_look : View S → Move S
+  top_look x = look x x.search.depth
 
   -- how many looks the first d rows can cost together
   abbrev pub all_looks : ℕ → List (Row S) → ℕ
@@ -103,15 +103,15 @@ module _ {S : Type 0} (g : Table) (f : Filter S) where
   -- look until it is done, at most so often
   unfoldable pub looking : ℕ → View S → Result S
   looking zero x = record { answer = End; left = x }
-  looking (suc n) x = after (looking n) (step x)
+  looking (suc n) x = after (looking n) (top_look x)
 
   abbrev pub walk : View S → Result S
   walk x = looking (suc (all_looks x.search.depth x.rows)) x
 
   -- the relation behind it: so many looks, of which only the last is done
   pub data Walks : ℕ → View S → Result S → Type 0 where
-    stops : {x : View S} {a : Answer S} {y : View S} → step x ≡ Done a y → Walks 1 x (record { answer = a; left = y })
-    goes : {n : ℕ} {x y : View S} {r : Result S} → step x ≡ More y → Walks n y r → Walks (suc n) x r
+    stops : {x : View S} {a : Answer S} {y : View S} → top_look x ≡ Done a y → Walks 1 x (record { answer = a; left = y })
+    goes : {n : ℕ} {x y : View S} {r : Result S} → top_look x ≡ More y → Walks n y r → Walks (suc n) x r
 
   -- the total t of the empty key waits; s is the search that has it no more
   abbrev pub first_of_all : View S → ℕ → Search → Result S
@@ -128,7 +128,7 @@ module _ {S : Type 0} (g : Table) (f : Filter S) where
   begin x None = walk x
   begin x (Some t) = first_of_all x t (without_waiting x.search)
 
-  -- `next`: no key stands any more; then 13, then a waiting total, then steps
+  -- `next`: no key stands any more; then 13, then a waiting total, then looks
   unfoldable pub next_of : View S → Result S
   next_of x =
       let y = with_search (without_key x.search) x in

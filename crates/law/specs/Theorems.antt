@@ -17,8 +17,8 @@ pub data Reason {S : Type 0} (g : Table) (y : View S) (rest : List (Entry S)) : 
   stack_full : (w : Bytes) (m u : ℕ) → Leads g g.root g.first_total w m u → length w ≡ y.search.depth → length y.rows ≤ length w → Reason g y rest 14
   -- 15: nor a byte
   key_area_full : (w : Bytes) (m u : ℕ) → Leads g g.root g.first_total w m u → length w ≡ y.search.depth → length y.key_area < length w → Reason g y rest 15
-  -- 16: the sum along a path is too large
-  path_too_large : (w : Bytes) (m u : ℕ) → Leads g g.root g.first_total w m u → most < u → Reason g y rest 16
+  -- 16: the sum along a path of as many bytes as rows are in use is too large
+  path_too_large : (w : Bytes) (m u : ℕ) → Leads g g.root g.first_total w m u → length w ≡ y.search.depth → most < u → Reason g y rest 16
   -- 16: the total of the next entry is too large
   total_too_large : (e : Entry S) (later : List (Entry S)) → rest ≡ e ∷ later → most < e.total → Reason g y rest 16
   -- 17: there is a next entry, and the count is full
@@ -115,7 +115,7 @@ pub record TotalsFit (g : Table) : Type 0 where
   pub paths : (w : Bytes) (m u : ℕ) → Leads g g.root g.first_total w m u → u ≤ most
   pub keys : (k : Bytes) (t : ℕ) → Key g k t → t ≤ most
 
--- a row more than the root is high, and a byte for each step down
+-- a row more than the root is high, and a byte for each byte of a path
 pub record AreasSuffice {S : Type 0} (g : Table) (y : View S) : Type 0 where
   pub rows : g.height g.root + 1 ≤ length y.rows
   pub bytes : g.height g.root ≤ length y.key_area

@@ -101,8 +101,8 @@ abbrev pub target_at : Table → ℕ → ℕ → ℕ
 target_at g n p = target_of (g.transition n p)
 
 -- the byte by which the row leads on, and the total of the key that ends at it
-abbrev pub step_byte : {S : Type 0} → Table → Row S → ℕ
-step_byte g r = byte_at g r.node r.position
+abbrev pub leading_byte : {S : Type 0} → Table → Row S → ℕ
+leading_byte g r = byte_at g r.node r.position
 
 abbrev pub key_total : {S : Type 0} → Table → Row S → ℕ
 key_total g r = r.total + g.final_output r.node

@@ -1,0 +1,5 @@
+pub mod Board
+pub mod BoardLaws
+pub mod EvenSum
+pub mod EvenSumLaws
+pub mod Counting

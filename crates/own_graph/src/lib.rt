@@ -1,0 +1,12 @@
+//! A graph and a filter of one's own, and a caller that counts what a search over any of them lists.
+#![tactic(auto)]
+
+mod board;
+mod counting;
+mod even_sum;
+#[cfg(test)]
+mod tests;
+
+pub use board::Board;
+pub use counting::count_listed;
+pub use even_sum::EvenSum;

@@ -1,0 +1,6 @@
+pub mod Numbers
+pub mod Views
+pub mod Answers
+pub mod Looks
+pub mod Openings
+pub mod Queries
