@@ -95,7 +95,7 @@ def account(file):
 
 def export(nodes):
     """A file of nodes given as (final output or None, transitions)."""
-    file = struct.pack("<I", len(nodes))
+    file = bytearray(struct.pack("<I", len(nodes)))
     place = 4 + 16 * len(nodes)
     for final_output, transitions in nodes:
         file += struct.pack("<IHBBQ", place, len(transitions), final_output is not None, 0, final_output or 0)
@@ -103,7 +103,7 @@ def export(nodes):
     for _, transitions in nodes:
         for byte, target, output in transitions:
             file += struct.pack("<BIQ", byte, target, output)
-    return file
+    return bytes(file)
 
 
 def whole(name, file):

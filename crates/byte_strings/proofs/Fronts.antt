@@ -1,6 +1,6 @@
 -- Byte strings that begin with one string, and their order. Assumes nothing.
-use Rattle.std.proofs.Common.{◌≡◌, ℕ, ◌<◌, ◌≤◌, Bool, true, false, cond, eqb, ◌⊎◌, [], ◌∷◌, ◌++◌, length, get_or, take, drop, sym, refl, ap, ◌∙◌, inl, inr, arith, append_assoc, append-nil, take-append-drop}
-use Rattle.std.proofs.lemmas.Bool.{eqb-true, eq-eqb, cond-true, false≢true}
+use Rattle.std.proofs.Common.{◌≡◌, ℕ, zero, suc, ◌-◌, ◌<◌, ◌≤◌, ◌==◌, slice_index, Bool, true, false, cond, eqb, ◌⊎◌, [], ◌∷◌, ◌++◌, length, get_or, take, drop, sym, refl, ap, ◌∙◌, inl, inr, arith, append_assoc, append-nil, take-append-drop}
+use Rattle.std.proofs.lemmas.Bool.{cases_Bool, eqb-false, eqb-true, eq-eqb, cond-true, false≢true}
 use Rattle.std.proofs.Math.Seq.{take-append_seam}
 use Rattle.std.proofs.lemmas.Bool.Decides.{Decides-eqb}
 use Rattle.std.proofs.lemmas.List.{take_all}
@@ -127,3 +127,19 @@ begins_front w k a h = whole_begun w a (k ++ drop (length (w ++ k)) a) (begun_wh
 
 pub byte_after : (w a : Bytes) (b : ℕ) → begins (w ++ (b ∷ [])) a ≡ true → get_or a (length w) 0 ≡ b
 byte_after w a b h = (begins_pop w a b h).2
+
+-- a string that begins with another has its bytes
+pub same_byte : (w a : Bytes) (k : ℕ) → begins w a ≡ true → k < length w → get_or w k 0 ≡ get_or a k 0
+same_byte [] a k h l = absurd (omega arith)
+same_byte (x ∷ w) [] k h l = absurd (false≢true h)
+same_byte (x ∷ w) (y ∷ a) zero h l = (begun_cons x y w a h).0
+same_byte (x ∷ w) (y ∷ a) (suc k) h l = same_byte w a k (begun_cons x y w a h).1 (omega arith)
+
+-- so it does not begin with one whose last byte is another
+pub last_differs : (w a : Bytes) → (length w == 0) ≡ false → (slice_index w (length w - 1) == slice_index a (length w - 1)) ≡ false → begins w a ≡ false
+last_differs w a n e = elim (cases_Bool (begins w a)) [
+  | inr r ↦ r
+  | inl r ↦
+      let l : 0 < length w = omega (arith, eqb-false (length w) 0 n) in
+      absurd (eqb-false _ _ e (same_byte w a (length w - 1) r (omega arith)))
+]

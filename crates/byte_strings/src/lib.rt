@@ -1,7 +1,7 @@
 //! Byte strings: their order, and which begins with which.
 #![tactic(auto)]
 
-ghost use Rattle.std.specs.Prelude.{◌≡◌, [], ◌∷◌, ◌++◌};
+ghost use Rattle.std.specs.Prelude.{◌≡◌, ◌≤◌, false, length, [], ◌∷◌, ◌++◌};
 ghost use Rattle.byte_strings.specs.Order.{order, begins};
 ghost use Rattle.byte_strings.specs.Laws.{OrderLaw, BeginsLaw};
 
@@ -26,13 +26,24 @@ pub fn compare_with_byte(front: &[u8], byte: u8, b: &[u8]) -> Ordering
     }
 }
 
+/// Whether the last byte of `a`, if it has one, is the byte of `b` at its place.
+#[tactic(auto, using(crate::proofs::Fronts::last_differs))]
+#[inline(always)]
+fn ends_alike(a: &[u8], b: &[u8]) -> bool
+    requires { length a.now ≤ length b.now }
+    ensures { result ≡ false → begins a.now b.now ≡ false }
+{
+    a.is_empty() || a[a.len() - 1] == b[a.len() - 1]
+}
+
 /// Whether `b` begins with `a`.
 #[tactic(auto, using(crate::proofs::Library::front_is_begins, crate::proofs::Library::longer_begins_none))]
+#[inline(always)]
 pub fn starts_with(a: &[u8], b: &[u8]) -> bool
     ensures { result ≡ begins a.now b.now }
 {
-    // The library's `starts_with` is a call in a search's every step; this tells most strings apart in line.
-    a.len() <= b.len() && a == &b[..a.len()]
+    // The library's `starts_with` is a call in a search's every step; the last byte tells most strings apart in line.
+    a.len() <= b.len() && ends_alike(a, b) && a == &b[..a.len()]
 }
 
 /// Theorem: the order is strict and total, and is the one that its words say.

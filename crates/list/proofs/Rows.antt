@@ -21,12 +21,16 @@ use Rattle.list.specs.declared.list.List.{List as Opened}
 use Rattle.list.specs.Opened.{names_in}
 use Rattle.list.specs.Held.{rising, names_rise}
 
+-- a row of an opened list lies in its text
+pub row_inside : (l : Opened) (i : ℕ) (r : Name) → slice_get (vec_items l.rows) i ≡ Some r → r.place + r.length ≤ length (vec_items l.text)
+row_inside l i r e =
+    let f : get_or (vec_items l.rows) i blank ≡ r = get_or_from_slice_get (vec_items l.rows) i r blank e in
+    rw (sym f) ((rising l).good i (slice_get_within (vec_items l.rows) i r e)).in_range.inside
+
 -- the row of a number cuts the name of that number out of the text
 pub name_of_row : (l : Opened) (i : ℕ) (r : Name) → slice_get (vec_items l.rows) i ≡ Some r → bytes_of (vec_items l.text) r ≡ slice_get (names_in l) i
 name_of_row l i r e =
-    let f : get_or (vec_items l.rows) i blank ≡ r = get_or_from_slice_get (vec_items l.rows) i r blank e in
-    let g : r.place + r.length ≤ length (vec_items l.text) = rw (sym f) ((rising l).good i (slice_get_within (vec_items l.rows) i r e)).in_range.inside in
-    cond-true _ _ _ (le-leb _ _ g)
+    cond-true _ _ _ (le-leb _ _ (row_inside l i r e))
     ∙ sym (slice_get-map (cut (vec_items l.text)) (vec_items l.rows) i ∙ ap (option_map (cut (vec_items l.text))) e)
 
 -- a name, or the empty string where there is none

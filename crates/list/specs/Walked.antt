@@ -7,4 +7,4 @@ use Rattle.list.specs.Opened.{names_in}
 
 -- the transitions that a walk has left
 abbrev pub left_of : Walk → List Transition
-left_of w = left (names_in w.list.now) w.prefix.now w.at w.end
+left_of w = left (names_in w.list.now) w.prefix.now w.given w.at

@@ -68,11 +68,14 @@ impl List {
     }
 
     /// The bytes of the name of a number, or none where there is no such name.
-    #[tactic(auto, using(crate::proofs::Rows::name_of_row))]
+    #[tactic(auto, using(crate::proofs::Rows::name_of_row, crate::proofs::Rows::row_inside))]
     pub fn name(&self, i: usize) -> Option<&[u8]>
         ensures { option_map (λ x. x.now) result ≡ slice_get (names_in self.now) i }
     {
-        self.row(i)?.bytes(self.text())
+        // no `Name::bytes`, which tests again what holds of every row of a list: a search asks for names at every look
+        let Name { place, length } = self.row(i)?;
+        let from = place as usize;
+        Some(&self.text()[from..from + length as usize])
     }
 
     /// The text and rows that the list was opened with.

@@ -32,11 +32,18 @@ impl Graph for List {
     }
 
     fn transition(&self, node: u32, position: usize) -> Option<Transition> {
-        self.walk(node).nth(position)
+        let prefix = self.prefix(node)?;
+        let mut lowest = self.first_group(prefix, node);
+        // no `nth` of the walk: a search asks this at every look, and with it takes a sixth more time
+        for _ in 0..position {
+            lowest = self.next_group(prefix, lowest?);
+        }
+        Some(self.transition_at(prefix, lowest?))
     }
 
     fn is_final(&self, node: u32) -> bool {
-        self.prefix(node).is_some() && self.is_whole(node.into())
+        // the length first: it tells most nodes apart
+        self.is_whole(node.into()) && self.prefix(node).is_some()
     }
 
     fn final_output(&self, node: u32) -> u64 {

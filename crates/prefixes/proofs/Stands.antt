@@ -1,54 +1,53 @@
 -- Where the walk over the transitions of a node stands, and its steps. Assumes nothing.
-use Rattle.std.proofs.Common.{◌≡◌, ℕ, ◌+◌, ◌-◌, ◌*◌, ◌/◌, ◌%◌, ◌<◌, ◌≤◌, true, false, eqb, List, [], ◌∷◌, ◌++◌, length, map, take, sym, ap, ◌∙◌, inl, inr, subst, arith}
-use Rattle.std.proofs.lemmas.Bool.{cases_lt, cases_Bool, cond-true, cond-false, lt-ltb, le-ltb, eq-eqb, ne_eqb, both_ways}
-use Rattle.std.proofs.lemmas.List.{length_push}
+use Rattle.std.proofs.Common.{◌≡◌, ℕ, zero, suc, ◌+◌, ◌-◌, ◌*◌, ◌/◌, ◌%◌, ◌<◌, ◌≤◌, ◌&&◌, Bool, true, false, eqb, ltb, List, [], ◌∷◌, ◌++◌, length, map, take, drop, Some, None, Option, refl, sym, ap, ◌∙◌, inl, inr, subst, arith}
+use Rattle.std.proofs.lemmas.Bool.{cases_lt, cases_Bool, ltb-true, lt-ltb, eq-eqb, ne_eqb, and_parts, and_from, both_ways}
+use Rattle.std.proofs.lemmas.List.{length_push, length-drop}
+use Rattle.std.proofs.Math.Logic.{∥∥₁_elim}
+use Rattle.std.specs.Coded.{codes}
+use Rattle.std.specs.List.{slice_get}
+use Rattle.graph.specs.declared.Transition.{Transition}
+use Rattle.std.proofs.lemmas.Option.{none-some, slice_get_past}
+use Rattle.std.specs.Bool.{then_some}
 use Rattle.std.specs.Int.{from_bool}
 use Rattle.byte_strings.specs.Order.{Bytes, begins}
-use Rattle.byte_strings.proofs.Fronts.{begins_take, take_begun, begins_pop}
+use Rattle.byte_strings.proofs.Fronts.{begins_take, take_begun, begins_push, begins_pop}
 use Rattle.prefixes.specs.Prefixes.{name_at, lowest, node_of, prefix_of, node_bytes, lengthened}
-use Rattle.prefixes.specs.Walks.{byte_at, Group, Node, Divided, rest, transitions, Stands, left}
-use Rattle.prefixes.proofs.RisingNames.{RisingNames, together}
+use Rattle.prefixes.specs.Walks.{byte_at, Group, Node, node_prefix, Divided, rest, transitions, begun_at, Stands, transition_at, left_from, left_behind, left, Passed}
+use Rattle.prefixes.proofs.BytesAfter.{same_some}
+use Rattle.prefixes.proofs.RisingNames.{RisingNames}
 use Rattle.prefixes.proofs.Lowest.{lowest_found}
-use Rattle.prefixes.proofs.Nodes.{is_node_since, bytes_of_node, prefix_length}
+use Rattle.prefixes.proofs.Nodes.{is_node_since, bytes_of_node, prefix_length, given_node}
 use Rattle.prefixes.proofs.Divided.{start_here, start_next, over, head_push, head_lowest, head_rest, raised, onto}
 
-module _ (ns : List Bytes) (w : Bytes) (j end : ℕ) where
-  -- before the end
-  ahead : j < end → left ns w j end ≡ map (lengthened ns w) (rest ns w (byte_at ns j (length w)))
-  unfolding left
-  ahead h = cond-true _ _ _ (lt-ltb _ _ h)
+module _ (ns : List Bytes) (s : RisingNames ns) (w : Bytes) (first j floor : ℕ) (c : Divided ns w first j floor) where
+  -- where name j begins with the prefix, what is left from the floor on is left from its transition on
+  left_there : j < length ns → begins w (name_at ns j) ≡ true → left_from ns w j ≡ map (lengthened ns w) (rest ns w floor)
+  left_there l p =
+      let d = raised ns s w first j floor c l p in
+      ap (map (lengthened ns w)) (head_rest ns s w first j (byte_at ns j (length w)) d l p ∙ sym (head_rest ns s w first j floor c l p))
 
-  pub at_end : end ≤ j → left ns w j end ≡ []
-  unfolding left
-  at_end h = cond-false _ _ _ (le-ltb _ _ h)
+  module _ (o : Option ℕ) (e : o ≡ begun_at ns w j) where
+    tested : (v : Bool) → (ltb j (length ns) && begins w (name_at ns j)) ≡ v → o ≡ then_some v j
+    tested v h = e ∙ ap (λ u. then_some u j) h
 
-module _ (ns : List Bytes) (s : RisingNames ns) (w : Bytes) (first j floor end : ℕ) (c : Divided ns w first j floor) (g : Group ns w first (length ns) end) where
-  -- the names up to the end begin with the prefix, and no further one
-  inner : j < end → begins w (name_at ns j) ≡ true
-  inner h =
-      let a = g.after in
-      let b = g.within in
-      let f = c.from in
-      together ns s w first j (end - 1) f (omega arith) (omega arith) c.starts g.last
+    pub place_stands : (k : ℕ) → o ≡ Some k → Stands ns w k
+    place_stands k h = elim (cases_Bool (ltb j (length ns) && begins w (name_at ns j))) [
+      | inl t ↦
+          let p = and_parts _ _ t in
+          subst (λ m. Stands ns w m) (same_some (sym (tested true t) ∙ h))
+          (record { first = first; floor = floor; divided = c; there = ltb-true _ _ p.0; begun = p.1 })
+      | inr t ↦ absurd (none-some _ (sym (tested false t) ∙ h))
+    ]
 
-  outer : (k : ℕ) → end ≤ k → k < length ns → begins w (name_at ns k) ≡ true → ⊥
-  outer k h a b =
-      let d = g.after in
-      both_ways (begins w (name_at ns end)) (g.stop (omega arith)) (together ns s w first end k (omega arith) h a c.starts b)
+    pub place_left : left ns w false o ≡ map (lengthened ns w) (rest ns w floor)
+    place_left = elim (cases_Bool (ltb j (length ns) && begins w (name_at ns j))) [
+      | inl t ↦ let p = and_parts _ _ t in ap (left ns w false) (tested true t) ∙ left_there (ltb-true _ _ p.0) p.1
+      | inr t ↦
+          ap (left ns w false) (tested false t)
+          ∙ sym (ap (map (lengthened ns w)) (over ns s w first j floor c (λ l p. both_ways (ltb j (length ns) && begins w (name_at ns j)) t (and_from _ _ (lt-ltb _ _ l) p))))
+    ]
 
-  -- what is left are the transitions by the bytes from the floor on
-  left_is : left ns w j end ≡ map (lengthened ns w) (rest ns w floor)
-  left_is = elim (cases_lt j end) [
-    | inl h ↦
-        let b = g.within in
-        let l : j < length ns = omega arith in
-        let p = inner h in
-        let d = raised ns s w first j floor c l p in
-        ahead ns w j end h ∙ ap (map (lengthened ns w)) (head_rest ns s w first j (byte_at ns j (length w)) d l p ∙ sym (head_rest ns s w first j floor c l p))
-    | inr h ↦ at_end ns w j end h ∙ sym (ap (map (lengthened ns w)) (over ns s w first j floor c (outer j h)))
-  ]
-
-module _ (ns : List Bytes) (s : RisingNames ns) (n end : ℕ) (node : Node ns n) (g : Group ns (prefix_of ns n) (n / 256) (length ns) end) where
+module _ (ns : List Bytes) (s : RisingNames ns) (n : ℕ) (node : Node ns n) where
   -- the walk starts at the lowest name of the node, or after it where that name goes no further
   started : (j : ℕ) → j ≡ n / 256 + from_bool (eqb (n % 256) (length (name_at ns (n / 256)))) → Divided ns (prefix_of ns n) (n / 256) j 0
   started j e = elim (cases_lt (n % 256) (length (name_at ns (n / 256)))) [
@@ -74,86 +73,189 @@ module _ (ns : List Bytes) (s : RisingNames ns) (n end : ℕ) (node : Node ns n)
           let b : lowest (prefix_of ns n) ns ≤ m = lowest_found (prefix_of ns n) ns m (omega arith) p in
           omega arith
 
--- the walk that starts there, by a prefix, a name and a length that are the node's
-module _ (ns : List Bytes) (s : RisingNames ns) (n : ℕ) (node : Node ns n) (w : Bytes) (i d bound j end : ℕ) (e : w ≡ prefix_of ns n) (f : i ≡ n / 256) (o : d ≡ n % 256) (u : bound ≡ length ns)
-    (g : Group ns w i bound end) (k : j ≡ i + from_bool (eqb d (length (name_at ns i)))) where
-  group : Group ns (prefix_of ns n) (n / 256) (length ns) end
-  group = subst (λ (v : Bytes). Group ns v (n / 256) (length ns) end) e (subst (λ m. Group ns w m (length ns) end) f (subst (λ m. Group ns w i m end) u g))
+-- the walk starts there, by a prefix, a name and a length that are the node's
+module _ (ns : List Bytes) (s : RisingNames ns) (n : ℕ) (w : Bytes) (given : Some w ≡ node_prefix ns n) (i d : ℕ) (f : i ≡ n / 256) (k : d ≡ n % 256) where
+  node : Node ns n
+  node = (given_node ns n w given).0
 
-  place : j ≡ n / 256 + from_bool (eqb (n % 256) (length (name_at ns (n / 256))))
-  place = k ∙ ap (λ m. i + from_bool (eqb m (length (name_at ns i)))) o ∙ ap (λ m. m + from_bool (eqb (n % 256) (length (name_at ns m)))) f
+  same : w ≡ prefix_of ns n
+  same = (given_node ns n w given).1
 
-  pub start_stands : Stands ns w j end
-  start_stands = subst (λ (v : Bytes). Stands ns v j end) (sym e) (record { first = n / 256; floor = 0; divided = started ns s n end node group j place; group = group })
+  module _ (o : Option ℕ) (h : o ≡ begun_at ns w (i + from_bool (eqb d (length (name_at ns i))))) where
+    place : Divided ns (prefix_of ns n) (n / 256) (i + from_bool (eqb d (length (name_at ns i)))) 0
+    place = started ns s n node _
+        (ap (λ m. i + from_bool (eqb m (length (name_at ns i)))) k ∙ ap (λ m. m + from_bool (eqb (n % 256) (length (name_at ns m)))) f)
 
-  -- and has all transitions of the node left
-  pub start_left : left ns w j end ≡ transitions ns n
-  start_left =
-      ap (λ v. left ns v j end) e
-      ∙ left_is ns s (prefix_of ns n) (n / 256) j 0 end (started ns s n end node group j place) group
-      ∙ sym (ap (map (lengthened ns (prefix_of ns n))) (bytes_of_node ns n (is_node_since ns n node)))
+    found : o ≡ begun_at ns (prefix_of ns n) (i + from_bool (eqb d (length (name_at ns i))))
+    found = h ∙ ap (λ v. begun_at ns v (i + from_bool (eqb d (length (name_at ns i))))) same
+
+    first_passed : Passed ns n w 0 o
+    first_passed = record {
+      stands = λ j q. ∣ subst (λ (v : Bytes). Stands ns v j) (sym same) (place_stands ns s (prefix_of ns n) (n / 256) _ 0 place o found j q) ∣₁;
+      left =
+          ap (λ v. left ns v false o) same
+          ∙ place_left ns s (prefix_of ns n) (n / 256) _ 0 place o found
+          ∙ sym (ap (map (lengthened ns (prefix_of ns n))) (bytes_of_node ns n (is_node_since ns n node)));
+    }
+
+  -- where name i is the prefix itself
+  pub after_whole : true ≡ eqb d (length (name_at ns i)) → (o : Option ℕ) → o ≡ begun_at ns w (i + 1) → Passed ns n w 0 o
+  after_whole t o h = first_passed o (h ∙ ap (λ v. begun_at ns w (i + from_bool v)) t)
+
+  -- and where it is longer
+  pub at_longer : false ≡ eqb d (length (name_at ns i)) → Passed ns n w 0 (Some i)
+  at_longer t =
+      let e : i ≡ i + 0 = omega arith in
+      let there : i < length ns = (let l = node.within in omega arith) in
+      let begun : begins w (name_at ns i) ≡ true = ap (λ v. begins v (name_at ns i)) same ∙ ap (λ m. begins (prefix_of ns n) (name_at ns m)) f ∙ begins_take (n % 256) (name_at ns (n / 256)) in
+      first_passed (Some i) (sym (ap (λ v. then_some v i) (and_from _ _ (lt-ltb _ _ there) begun)) ∙ ap (begun_at ns w) e ∙ ap (λ v. begun_at ns w (i + from_bool v)) t)
 
 -- a number that is no node has none
 pub none_left : (ns : List Bytes) (n : ℕ) → node_bytes ns n ≡ [] → [] ≡ transitions ns n
 none_left ns n e = sym (ap (map (lengthened ns (prefix_of ns n))) e)
 
-module _ (ns : List Bytes) (s : RisingNames ns) (w : Bytes) (j end : ℕ) (c : Stands ns w j end) (h : j < end) where
-  pub there : j < length ns
-  there = let g = c.group.within in omega arith
-
-  begun : begins w (name_at ns j) ≡ true
-  begun = inner ns s w c.first j c.floor end c.divided c.group h
-
+module _ (ns : List Bytes) (s : RisingNames ns) (w : Bytes) (j : ℕ) (c : Stands ns w j) where
   -- the name at which the walk stands goes on from the prefix
   pub longer : length w < length (name_at ns j)
-  longer = c.divided.longer j (omega arith) there begun
+  longer = c.divided.longer j (omega arith) c.there c.begun
 
   pub short : (j < 65536) × (length w < 255)
   short =
-      let a = s.short j there in
+      let a = s.short j c.there in
       let b = s.few in
       let l = longer in
-      let t = there in
+      let t = c.there in
       (omega arith, omega arith)
 
   -- the prefix of its transition
   pub front : take (length w + 1) (name_at ns j) ≡ w ++ (byte_at ns j (length w) ∷ [])
   front =
-      let d = raised ns s w c.first j c.floor c.divided there begun in
       let e : length (w ++ (byte_at ns j (length w) ∷ [])) ≡ length w + 1 = length_push w (byte_at ns j (length w)) in
       ap (λ k. take k (name_at ns j)) (sym e)
-      ∙ take_begun (w ++ (byte_at ns j (length w) ∷ [])) (name_at ns j) (head_push ns s w c.first j c.floor c.divided there begun)
+      ∙ take_begun (w ++ (byte_at ns j (length w) ∷ [])) (name_at ns j) (head_push ns s w c.first j c.floor c.divided c.there c.begun)
 
   -- the node to which it leads
   pub target : 256 * j + (length w + 1) ≡ node_of ns (w ++ (byte_at ns j (length w) ∷ []))
   target =
-      let e : lowest (w ++ (byte_at ns j (length w) ∷ [])) ns ≡ j = head_lowest ns s w c.first j c.floor c.divided there begun in
+      let e : lowest (w ++ (byte_at ns j (length w) ∷ [])) ns ≡ j = head_lowest ns s w c.first j c.floor c.divided c.there c.begun in
       let k : length (w ++ (byte_at ns j (length w) ∷ [])) ≡ length w + 1 = length_push w (byte_at ns j (length w)) in
       omega arith
 
-  module _ (k : ℕ) (g : Group ns (take (length w + 1) (name_at ns j)) j end k) where
+  -- what is left from its transition on is that one, and what is left behind it
+  pub first_left : left_from ns w j ≡ transition_at ns w j ∷ left_behind ns w j
+  first_left =
+      ap (map (lengthened ns w))
+      (head_rest ns s w c.first j (byte_at ns j (length w)) (raised ns s w c.first j c.floor c.divided c.there c.begun) c.there c.begun)
+
+  module _ (k : ℕ) (g : Group ns (take (length w + 1) (name_at ns j)) j (length ns) k) where
     -- past the names of its transition
     passed : Divided ns w c.first k (byte_at ns j (length w) + 1)
-    passed = onto ns s w c.first j c.floor c.divided there begun k g.after (let a = g.within in let b = c.group.within in omega arith) last stop
-      where
-        last : begins (w ++ (byte_at ns j (length w) ∷ [])) (name_at ns (k - 1)) ≡ true
-        last = ap (λ v. begins v (name_at ns (k - 1))) (sym front) ∙ g.last
+    passed = onto ns s w c.first j c.floor c.divided c.there c.begun k g.after g.within
+        (ap (λ v. begins v (name_at ns (k - 1))) (sym front) ∙ g.last) (λ m. ap (λ v. begins v (name_at ns k)) (sym front) ∙ g.stop m)
 
-        stop : k < length ns → begins (w ++ (byte_at ns j (length w) ∷ [])) (name_at ns k) ≡ false
-        stop m = elim (cases_Bool (begins (w ++ (byte_at ns j (length w) ∷ [])) (name_at ns k))) [
-          | inr r ↦ r
-          | inl r ↦ elim (cases_lt k end) [
-            | inl x ↦ ap (λ v. begins v (name_at ns k)) (sym front) ∙ g.stop x
-            | inr x ↦ absurd (outer ns s w c.first j c.floor end c.divided c.group k x m (begins_pop w (name_at ns k) (byte_at ns j (length w)) r).0)
-          ]
-        ]
+    module _ (o : Option ℕ) (e : o ≡ begun_at ns w k) where
+      pub next_stands : (m : ℕ) → o ≡ Some m → Stands ns w m
+      next_stands = place_stands ns s w c.first k (byte_at ns j (length w) + 1) passed o e
 
-    pub next_stands : Stands ns w k end
-    next_stands = record { first = c.first; floor = byte_at ns j (length w) + 1; divided = passed; group = c.group }
+      pub next_left : left ns w false o ≡ left_behind ns w j
+      next_left = place_left ns s w c.first k (byte_at ns j (length w) + 1) passed o e
 
-    -- what was left is that transition, and what is left then
-    pub next_left : left ns w j end ≡ lengthened ns w (byte_at ns j (length w)) ∷ left ns w k end
-    next_left =
-        left_is ns s w c.first j c.floor end c.divided c.group
-        ∙ ap (map (lengthened ns w)) (head_rest ns s w c.first j c.floor c.divided there begun)
-        ∙ ap (λ z. lengthened ns w (byte_at ns j (length w)) ∷ z) (sym (left_is ns s w c.first k (byte_at ns j (length w) + 1) end passed c.group))
+  -- the group of name j is that name alone, unless the name behind begins with its front
+  alone : (j + 1 < length ns → begins (take (length w + 1) (name_at ns j)) (name_at ns (j + 1)) ≡ false)
+      → Group ns (take (length w + 1) (name_at ns j)) j (length ns) (j + 1)
+  alone h =
+      let e : j + 1 - 1 ≡ j = omega arith in
+      let t = c.there in
+      record {
+        after = omega arith;
+        within = omega arith;
+        last = ap (λ i. begins (take (length w + 1) (name_at ns j)) (name_at ns i)) e ∙ begins_take (length w + 1) (name_at ns j);
+        stop = h;
+      }
+
+  module _ (k : ℕ) (e : Some k ≡ begun_at ns w (j + 1)) where
+    pub next_is : k ≡ j + 1
+    next_is = elim (cases_Bool (ltb (j + 1) (length ns) && begins w (name_at ns (j + 1)))) [
+      | inl t ↦ same_some (e ∙ ap (λ u. then_some u (j + 1)) t)
+      | inr t ↦ absurd (none-some _ (sym (e ∙ ap (λ u. then_some u (j + 1)) t)))
+    ]
+
+    next_there : (k < length ns) × (begins w (name_at ns k) ≡ true)
+    next_there = elim (cases_Bool (ltb (j + 1) (length ns) && begins w (name_at ns (j + 1)))) [
+      | inl t ↦
+          let p = and_parts (ltb (j + 1) (length ns)) (begins w (name_at ns (j + 1))) t in
+          let l : j + 1 < length ns = ltb-true _ _ p.0 in
+          let i : k ≡ j + 1 = next_is in
+          (omega arith, ap (λ m. begins w (name_at ns m)) next_is ∙ p.1)
+      | inr t ↦ absurd (none-some _ (sym (e ∙ ap (λ u. then_some u (j + 1)) t)))
+    ]
+
+    -- the name behind goes on from the prefix too
+    pub next_longer : length w < length (name_at ns k)
+    next_longer = let i = next_is in c.divided.longer k (omega arith) next_there.0 next_there.1
+
+    -- it begins with the front of name j exactly where it goes on by the same byte
+    pub same_front : byte_at ns k (length w) ≡ byte_at ns j (length w) → begins (take (length w + 1) (name_at ns j)) (name_at ns k) ≡ true
+    same_front h = ap (λ v. begins v (name_at ns k)) front ∙ begins_push w (name_at ns k) (byte_at ns j (length w)) next_there.1 next_longer h
+
+    other_front : (byte_at ns k (length w) ≡ byte_at ns j (length w) → ⊥) → begins (take (length w + 1) (name_at ns j)) (name_at ns k) ≡ false
+    other_front h = elim (cases_Bool (begins (take (length w + 1) (name_at ns j)) (name_at ns k))) [
+      | inr r ↦ r
+      | inl r ↦ absurd (h (begins_pop w (name_at ns k) (byte_at ns j (length w)) (ap (λ v. begins v (name_at ns k)) (sym front) ∙ r)).2)
+    ]
+
+    module _ (h : byte_at ns k (length w) ≡ byte_at ns j (length w) → ⊥) where
+      other : Group ns (take (length w + 1) (name_at ns j)) j (length ns) (j + 1)
+      other = alone (λ _. ap (λ i. begins (take (length w + 1) (name_at ns j)) (name_at ns i)) (sym next_is) ∙ other_front h)
+
+      pub other_stands : (m : ℕ) → Some k ≡ Some m → Stands ns w m
+      other_stands = next_stands (j + 1) other (Some k) e
+
+      pub other_left : left_from ns w k ≡ left_behind ns w j
+      other_left = next_left (j + 1) other (Some k) e
+
+  -- nothing is left behind the group where the name behind does not begin with the prefix
+  pub none_behind : None ≡ begun_at ns w (j + 1) → [] ≡ left_behind ns w j
+  none_behind e = next_left (j + 1) (alone (λ l. elim (cases_Bool (begins (take (length w + 1) (name_at ns j)) (name_at ns (j + 1)))) [
+    | inr r ↦ r
+    | inl r ↦
+        let p = (begins_pop w (name_at ns (j + 1)) (byte_at ns j (length w)) (ap (λ v. begins v (name_at ns (j + 1))) (sym front) ∙ r)).0 in
+        absurd (none-some _ (e ∙ ap (λ u. then_some u (j + 1)) (and_from _ _ (lt-ltb _ _ l) p)))
+  ])) None e
+
+got : (xs : List Transition) (p : ℕ) (x : Transition) (more : List Transition) → drop p xs ≡ x ∷ more → slice_get xs p ≡ Some x
+got [] zero x more e = cc
+got [] (suc p) x more e = cc
+got (y ∷ xs) zero x more e = cc
+got (y ∷ xs) (suc p) x more e = got xs p x more e
+
+dropped : (xs : List Transition) (p : ℕ) (x : Transition) (more : List Transition) → drop p xs ≡ x ∷ more → drop (suc p) xs ≡ more
+dropped [] zero x more e = cc
+dropped [] (suc p) x more e = cc
+dropped (y ∷ xs) zero x more e = cc
+dropped (y ∷ xs) (suc p) x more e = dropped xs p x more e
+
+-- the passing of a node's transitions, one by one
+module _ (ns : List Bytes) (s : RisingNames ns) (n : ℕ) (w : Bytes) (p : ℕ) where
+  module _ (j : ℕ) (c : Passed ns n w p (Some j)) where
+    stood : ∥ Stands ns w j ∥₁
+    stood = c.stands j refl
+
+    next_left_of : drop p (transitions ns n) ≡ transition_at ns w j ∷ left_behind ns w j
+    next_left_of = sym c.left ∙ ∥∥₁_elim stood (Prim.hlevel codes) (first_left ns s w j)
+
+    pub passed_found : slice_get (transitions ns n) p ≡ Some (transition_at ns w j)
+    passed_found = got (transitions ns n) p (transition_at ns w j) (left_behind ns w j) next_left_of
+
+    pub passed_on : (o : Option ℕ) → ((k : ℕ) → o ≡ Some k → ∥ Stands ns w k ∥₁) → left ns w false o ≡ left_behind ns w j → Passed ns n w (p + 1) o
+    passed_on o h e =
+        let k : p + 1 ≡ suc p = omega arith in
+        record {
+          stands = h;
+          left = e ∙ sym (ap (λ q. drop q (transitions ns n)) k ∙ dropped (transitions ns n) p (transition_at ns w j) (left_behind ns w j) next_left_of);
+        }
+
+  pub passed_over : Passed ns n w p None → (q : ℕ) → p ≤ q → slice_get (transitions ns n) q ≡ None
+  passed_over c q l =
+      let e : 0 ≡ length (transitions ns n) - p = ap length c.left ∙ length-drop p (transitions ns n) in
+      slice_get_past (transitions ns n) q (omega arith)

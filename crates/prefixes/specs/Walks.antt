@@ -1,5 +1,5 @@
 -- The walk over the transitions of a node, from one group of names to the next. Assumes nothing.
-use Rattle.std.specs.Prelude.{◌≡◌, ℕ, ◌-◌, ◌/◌, ◌%◌, ◌<◌, ◌≤◌, true, false, cond, List, [], length, map, Option, nat_lt, slice_index}
+use Rattle.std.specs.Prelude.{◌≡◌, ℕ, ◌+◌, ◌-◌, ◌/◌, ◌%◌, ◌<◌, ◌≤◌, ◌&&◌, Bool, true, false, cond, List, [], length, map, drop, Some, None, Option, nat_lt, slice_index}
 use Rattle.byte_strings.specs.Order.{Bytes, begins}
 use Rattle.std.specs.Bool.{then_some}
 use Rattle.std.specs.List.{slice_get}
@@ -46,16 +46,38 @@ rest ns w b = bytes_after ns w (256 - b) b
 abbrev pub transitions : List Bytes → ℕ → List Transition
 transitions ns n = map (lengthened ns (prefix_of ns n)) (node_bytes ns n)
 
--- the walk over the prefix w stands at name j, the lowest of its transition; the names that begin with w end before name end
-pub record Stands (ns : List Bytes) (w : Bytes) (j end : ℕ) : Type 0 where
+-- name j, where it begins with w
+abbrev pub begun_at : List Bytes → Bytes → ℕ → Option ℕ
+begun_at ns w j = then_some (nat_lt j (length ns) && begins w (name_at ns j)) j
+
+-- the walk over the prefix w stands at name j, the lowest of its transition
+pub record Stands (ns : List Bytes) (w : Bytes) (j : ℕ) : Type 0 where
   pub first : ℕ
   pub floor : ℕ
   pub divided : Divided ns w first j floor
-  pub group : Group ns w first (length ns) end
+  pub there : j < length ns
+  pub begun : begins w (name_at ns j) ≡ true
 
--- the transitions that it has left: those by the byte of name j and by greater ones
-unfoldable pub left : List Bytes → Bytes → ℕ → ℕ → List Transition
-left ns w j end = cond (nat_lt j end) (map (lengthened ns w) (rest ns w (byte_at ns j (length w)))) []
+-- the transition of name j
+abbrev pub transition_at : List Bytes → Bytes → ℕ → Transition
+transition_at ns w j = lengthened ns w (byte_at ns j (length w))
+
+-- the transitions from that of name j on, and those behind it
+abbrev pub left_from : List Bytes → Bytes → ℕ → List Transition
+left_from ns w j = map (lengthened ns w) (rest ns w (byte_at ns j (length w)))
+
+abbrev pub left_behind : List Bytes → Bytes → ℕ → List Transition
+left_behind ns w j = map (lengthened ns w) (rest ns w (byte_at ns j (length w) + 1))
+
+-- the transitions that a walk has left, where it stands, and where it has given the one at which it stands
+abbrev pub left : List Bytes → Bytes → Bool → Option ℕ → List Transition
+left ns w given None = []
+left ns w given (Some j) = cond given (left_behind ns w j) (left_from ns w j)
+
+-- so many transitions of node n, whose prefix is w, are passed; o is the lowest name of the next one's group
+pub record Passed (ns : List Bytes) (n : ℕ) (w : Bytes) (p : ℕ) (o : Option ℕ) : Type 0 where
+  pub stands : (j : ℕ) → o ≡ Some j → ∥ Stands ns w j ∥₁
+  pub left : left ns w false o ≡ drop p (transitions ns n)
 
 -- ts are the transitions of node n of a table, in order: few enough to count
 pub record Lists (t : Table) (n : ℕ) (ts : List Transition) : Type 0 where

@@ -1,5 +1,5 @@
 //! One look at the top row of a search.
-ghost use Rattle.std.specs.Prelude.{◌≡◌, ◌<◌, ◌-◌, ℕ, suc, List, Ok, [], ◌∷◌, ◌++◌, false, length, slice_set, ◌==◌, IfOk, Some, ◌==◌};
+ghost use Rattle.std.specs.Prelude.{◌≡◌, ◌<◌, ◌-◌, ℕ, suc, List, Ok, [], ◌∷◌, ◌++◌, false, length, ◌==◌, IfOk, Some};
 ghost use Rattle.law.specs.Values.{too_short, most_keys, handed_out};
 ghost use Rattle.law.specs.Next.{top_look};
 ghost use Rattle.search.specs.Views.{search_of, view_of};

@@ -1,5 +1,5 @@
 //! Work areas that are small, that grow, and that are cut short, and keys that stand or do not.
-use crate::showing::{blank, show, show_key, show_next, show_rest};
+use crate::showing::{blank, show, show_key, show_next};
 use automaton::AlwaysMatch;
 use list::List;
 use search::{Query, Row, Search};
@@ -31,14 +31,7 @@ fn show_two_rows(rt: &HostRuntime, list: &List) -> io::Result<()> {
     show_key(rt, &search, &rows, &key_area)?;
     print!(rt; ", a third row: ")?;
     let mut rows = [rows[0], rows[1], blank(())];
-    show_rest(
-        rt,
-        list,
-        &AlwaysMatch,
-        &mut search,
-        &mut rows,
-        &mut key_area,
-    )?;
+    show_calls(rt, list, 3, &mut search, &mut rows, &mut key_area)?;
     println!(rt; "count {}", search.close())
 }
 
@@ -53,14 +46,7 @@ fn show_one_byte(rt: &HostRuntime, list: &List) -> io::Result<()> {
     show_key(rt, &search, &rows, &key_area)?;
     print!(rt; ", a second byte: ")?;
     let mut key_area = [key_area[0], 0];
-    show_rest(
-        rt,
-        list,
-        &AlwaysMatch,
-        &mut search,
-        &mut rows,
-        &mut key_area,
-    )?;
+    show_calls(rt, list, 3, &mut search, &mut rows, &mut key_area)?;
     println!(rt; "count {}", search.close())
 }
 
@@ -74,14 +60,7 @@ fn show_cut(rt: &HostRuntime, list: &List) -> io::Result<()> {
     show_calls(rt, list, 2, &mut search, &mut rows, &mut key_area)?;
     show_calls(rt, list, 1, &mut search, &mut rows[..1], &mut key_area)?;
     show_calls(rt, list, 1, &mut search, &mut rows, &mut [])?;
-    show_rest(
-        rt,
-        list,
-        &AlwaysMatch,
-        &mut search,
-        &mut rows,
-        &mut key_area,
-    )?;
+    show_calls(rt, list, 3, &mut search, &mut rows, &mut key_area)?;
     println!(rt; "count {}", search.close())
 }
 
@@ -102,14 +81,7 @@ fn show_standing(rt: &HostRuntime, list: &List) -> io::Result<()> {
     show_calls(rt, list, 1, &mut search, &mut rows, &mut [])?;
     show_key(rt, &search, &rows, &key_area)?;
     print!(rt; ", ")?;
-    show_rest(
-        rt,
-        list,
-        &AlwaysMatch,
-        &mut search,
-        &mut rows,
-        &mut key_area,
-    )?;
+    show_calls(rt, list, 3, &mut search, &mut rows, &mut key_area)?;
     show_key(rt, &search, &rows, &key_area)?;
     println!(rt; ", count {}", search.close())
 }

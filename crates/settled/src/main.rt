@@ -1,4 +1,4 @@
-//! Runs searches whose answers are known beforehand, and prints what each hands out, a line for each.
+//! Runs searches whose answers are known beforehand, and prints a line for each.
 #![tactic(auto)]
 
 mod areas;

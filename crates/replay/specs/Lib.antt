@@ -1,0 +1,2 @@
+pub mod AnyFilters
+pub mod Laws
