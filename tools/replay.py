@@ -7,7 +7,8 @@ each filter word by word. Which cases are to differ by the rule of the empty key
 (docs/SEARCH.md). It shares no code with the crates. Run from the repository's root.
 """
 import re
-import struct
+
+from catalogue_model import export, keys_below
 
 RECORDS = ["recorded/listing.txt", "recorded/searches.txt", "recorded/drawn.txt"]
 
@@ -71,29 +72,8 @@ def read_table(text):
     return nodes
 
 
-def keys_of(nodes, node, key=b"", total=0):
-    """The keys beneath a node and their totals, in their order."""
-    final, transitions = nodes[node]
-    if final is not None:
-        yield key, total + final
-    for byte, target, output in transitions:
-        yield from keys_of(nodes, target, key + bytes([byte]), total + output)
-
-
 def is_numbered(names):
     return names != [] and [total for _, total in names] == list(range(len(names)))
-
-
-def catalogue(nodes):
-    data = struct.pack("<I", len(nodes))
-    place = 4 + 16 * len(nodes)
-    for final, transitions in nodes:
-        data += struct.pack("<IHBBQ", place, len(transitions), final is not None, 0, final or 0)
-        place += 13 * len(transitions)
-    for _, transitions in nodes:
-        for byte, target, output in transitions:
-            data += struct.pack("<BIQ", byte, target, output)
-    return data
 
 
 def packed(data):
@@ -109,7 +89,7 @@ def graph_of(verb, text):
         nodes = trie(names, least)
     else:
         nodes = read_table(text)
-        names = list(keys_of(nodes, len(nodes) - 1)) if len(nodes) < 1000 else []
+        names = list(keys_below(nodes, len(nodes) - 1, b"", 0)) if len(nodes) < 1000 else []
     if is_numbered(names) and (verb == "search" or nodes == trie(names, nothing)):
         return nodes, [name for name, _ in names]
     return nodes, None
@@ -208,7 +188,7 @@ def main():
             assert rest == ""
             kind = "rows" if verb in ("rows", "trows") else "search"
             listed = "-" if names is None else ",".join(to_hex(name) for name in names)
-            file.write(f"> {kind} {packed(catalogue(nodes))} {listed} {bounds} {words(term)}\n")
+            file.write(f"> {kind} {packed(export(nodes))} {listed} {bounds} {words(term)}\n")
             file.writelines(answers)
             for graph_kind in ["catalogue"] + ["list"] * (names is not None):
                 count = counts[graph_kind]
