@@ -7,14 +7,14 @@ use Rattle.names.specs.Rising.{Rising}
 use Rattle.names.proofs.RefusalLaws.{accepted_rising}
 use Rattle.prefixes.proofs.RisingNames.{RisingNames, rising_names}
 use Rattle.list.specs.declared.list.List.{List as Opened}
-use Rattle.list.specs.Opened.{names_in}
+use Rattle.list.specs.Opened.{rows_in, names_in}
 
 none_since : (o : Option Refusal) → is_some o ≡ false → o ≡ None
 none_since None h = refl
 none_since (Some e) h = absurd (false≢true (sym h))
 
-pub rising : (l : Opened) → Rising (vec_items l.text) (vec_items l.rows)
-rising l = accepted_rising (vec_items l.text) (vec_items l.rows) (none_since _ l.accepted)
+pub rising : (l : Opened) → Rising (vec_items l.text) (rows_in l)
+rising l = accepted_rising (vec_items l.text) (rows_in l) (none_since _ l.accepted)
 
 pub names_rise : (l : Opened) → RisingNames (names_in l)
-names_rise l = rising_names (vec_items l.text) (vec_items l.rows) (rising l) l.bytes
+names_rise l = rising_names (vec_items l.text) (rows_in l) (rising l) l.bytes

@@ -1,3 +1,4 @@
+pub mod Marks
 pub mod Opened
-pub mod Walked
+pub mod Groups
 pub mod Held

@@ -1,11 +1,12 @@
 //! A list of names as a graph of their prefixes.
 #![tactic(auto)]
 
+mod groups;
 mod list;
+mod marks;
 mod opening;
 mod prefix;
 mod questions;
-mod walk;
 
 pub use list::List;
 pub use opening::Parts;

@@ -27,23 +27,29 @@ impl Graph for List {
         FIRST_TOTAL
     }
 
+    #[tactic(auto, using(crate::proofs::Answered::no_node_len, crate::proofs::Answered::len_behind, crate::proofs::Answered::len_none, crate::proofs::Placed::group_few))]
     fn len(&self, node: u32) -> usize {
-        self.walk(node).count()
-    }
-
-    fn transition(&self, node: u32, position: usize) -> Option<Transition> {
-        let prefix = self.prefix(node)?;
-        let mut lowest = self.first_group(prefix, node);
-        // no `nth` of the walk: a search asks this at every look, and with it takes a sixth more time
-        for _ in 0..position {
-            lowest = self.next_group(prefix, lowest?);
+        if !self.is_node(node) {
+            return 0;
         }
-        Some(self.transition_at(prefix, lowest?))
+        match self.last_not_above(node, u8::MAX) {
+            Some(last) => last.following(),
+            None => 0,
+        }
     }
 
+    #[tactic(auto, using(crate::proofs::Answered::no_node_transition, crate::proofs::Answered::group_transition, crate::proofs::Answered::no_group_transition, crate::proofs::Placed::placed_some))]
+    fn transition(&self, node: u32, position: usize) -> Option<Transition> {
+        if !self.is_node(node) {
+            return None;
+        }
+        let group = self.group(node, position)?;
+        Some(self.transition_of(node, group))
+    }
+
+    #[tactic(auto, using(crate::proofs::Placed::node_within))]
     fn is_final(&self, node: u32) -> bool {
-        // the length first: it tells most nodes apart
-        self.is_whole(node.into()) && self.prefix(node).is_some()
+        self.is_node(node) && self.is_whole(node)
     }
 
     fn final_output(&self, node: u32) -> u64 {
@@ -54,8 +60,12 @@ impl Graph for List {
         }
     }
 
-    #[tactic(auto, using(prefixes::proofs::Listed::finds, prefixes::proofs::Laws::prefix_table_is_lawful, crate::specs::Held::names_rise))]
+    #[tactic(auto, using(crate::proofs::Answered::no_node_finds, crate::proofs::Answered::finds_none, crate::proofs::Answered::finds_last))]
     fn find_input(&self, node: u32, byte: u8) -> Option<usize> {
-        self.walk(node).position_of(byte)
+        if !self.is_node(node) {
+            return None;
+        }
+        let last = self.last_not_above(node, byte)?;
+        (self.byte_of(node, last) == byte).then_some(last.position)
     }
 }

@@ -6,4 +6,6 @@ pub mod Laws
 pub mod Keys
 pub mod Divided
 pub mod Stands
-pub mod Listed
+pub mod Shared
+pub mod Ends
+pub mod Groups

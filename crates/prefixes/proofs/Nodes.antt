@@ -1,9 +1,8 @@
 -- Which numbers are nodes. Assumes nothing.
-use Rattle.std.proofs.Common.{◌≡◌, ℕ, ◌-◌, ◌/◌, ◌%◌, ◌<◌, ◌≤◌, Bool, true, false, cond, not, eqb, ltb, leb, ◌⊎◌, List, [], length, take, Some, None, sym, refl, ap, ◌∙◌, inl, inr, arith}
-use Rattle.std.proofs.lemmas.Bool.{cases_lt, le-ltb, lt-leb, false≢true, ltb-true, leb-true, eqb-true, eqb-false, lt-ltb, le-leb, eq-eqb, ne_eqb, cond-true, cond-false, cases_Bool, both_ways}
+use Rattle.std.proofs.Common.{◌≡◌, ℕ, ◌-◌, ◌/◌, ◌%◌, ◌<◌, ◌≤◌, Bool, true, false, cond, not, eqb, ltb, leb, ◌⊎◌, List, [], length, take, Some, sym, refl, ap, ◌∙◌, inl, inr, arith}
+use Rattle.std.proofs.lemmas.Bool.{false≢true, ltb-true, leb-true, eqb-true, eqb-false, lt-ltb, le-leb, eq-eqb, ne_eqb, cond-true, cond-false, cases_Bool, both_ways}
 use Rattle.std.proofs.lemmas.List.{length-take-le}
-use Rattle.std.proofs.lemmas.Option.{none-some, slice_get-get_or, slice_get_within, get_or_from_slice_get}
-use Rattle.std.specs.List.{slice_get}
+use Rattle.std.proofs.lemmas.Option.{none-some}
 use Rattle.std.specs.Bool.{then_some}
 use Rattle.byte_strings.specs.Order.{Bytes, begins}
 use Rattle.byte_strings.proofs.Fronts.{begins_take}
@@ -81,37 +80,6 @@ module _ (ns : List Bytes) (n : ℕ) where
   pub prefix_length : Node ns n → length (prefix_of ns n) ≡ n % 256
   prefix_length w = length-take-le (n % 256) (name_at ns (n / 256)) w.short
 
-module _ (ns : List Bytes) (n i d : ℕ) (e : i ≡ n / 256) (f : d ≡ n % 256) where
-  none_given : is_node ns n ≡ false → node_prefix ns n ≡ None
-  none_given k = ap (λ v. then_some v (prefix_of ns n)) k
-
-  -- there is no such name
-  pub no_name_none : None ≡ slice_get ns i → None ≡ node_prefix ns n
-  no_name_none h = sym (none_given (no_prefix ns n (elim (cases_lt (n / 256) (length ns)) [
-    | inl l ↦ absurd (none-some _ (h ∙ ap (slice_get ns) e ∙ slice_get-get_or ns (n / 256) [] l))
-    | inr l ↦ cond-false _ _ _ (le-ltb _ _ l)
-  ])))
-
-  module _ (a : Bytes) (h : Some a ≡ slice_get ns i) where
-    there : n / 256 < length ns
-    there = let g = slice_get_within ns i a (sym h) in omega arith
-
-    same : name_at ns (n / 256) ≡ a
-    same = ap (name_at ns) (sym e) ∙ get_or_from_slice_get ns i a [] (sym h)
-
-    -- or it is too short
-    pub short_none : length a < d → None ≡ node_prefix ns n
-    short_none l = sym (none_given (no_prefix ns n (cond-true _ _ _ (lt-ltb _ _ there) ∙ lt-leb _ _ (let g = ap length same in omega arith))))
-
-    -- else its front is the prefix, unless the name before begins with it
-    pub front_given : RisingNames ns → d ≤ length a → then_some (cond (eqb i 0) true (not (begins (take d a) (name_at ns (i - 1))))) (take d a) ≡ node_prefix ns n
-    front_given s l =
-        let t = lowest_test ns n s (cond-true _ _ _ (lt-ltb _ _ there) ∙ le-leb _ _ (let g = ap length same in omega arith)) in
-        let p : take d a ≡ prefix_of ns n = ap (λ k. take k a) f ∙ ap (take (n % 256)) (sym same) in
-        ap (then_some (cond (eqb i 0) true (not (begins (take d a) (name_at ns (i - 1)))))) p
-        ∙ ap (λ v. then_some v (prefix_of ns n)) (ap (λ v. cond (eqb i 0) true (not (begins v (name_at ns (i - 1))))) p
-        ∙ ap (λ k. cond (eqb k 0) true (not (begins (prefix_of ns n) (name_at ns (k - 1))))) e ∙ t)
-
 module _ (ns : List Bytes) (n : ℕ) where
   pub given_node : (a : Bytes) → Some a ≡ node_prefix ns n → Node ns n × (a ≡ prefix_of ns n)
   given_node a h = go (cases_Bool (is_node ns n))
@@ -119,10 +87,3 @@ module _ (ns : List Bytes) (n : ℕ) where
       go : (is_node ns n ≡ true) ⊎ (is_node ns n ≡ false) → Node ns n × (a ≡ prefix_of ns n)
       go (inl e) = let k : node_prefix ns n ≡ Some (prefix_of ns n) = ap (λ v. then_some v (prefix_of ns n)) e in (node_since ns n e, (let m = h ∙ k in cc))
       go (inr e) = absurd (none-some _ (sym (h ∙ ap (λ v. then_some v (prefix_of ns n)) e)))
-
-  pub none_no_bytes : None ≡ node_prefix ns n → node_bytes ns n ≡ []
-  none_no_bytes h = go (cases_Bool (is_node ns n))
-    where
-      go : (is_node ns n ≡ true) ⊎ (is_node ns n ≡ false) → node_bytes ns n ≡ []
-      go (inl e) = absurd (none-some _ (h ∙ ap (λ v. then_some v (prefix_of ns n)) e))
-      go (inr e) = no_bytes ns n e

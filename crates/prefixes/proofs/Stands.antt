@@ -10,8 +10,8 @@ use Rattle.std.proofs.lemmas.Option.{none-some, slice_get_past}
 use Rattle.std.specs.Bool.{then_some}
 use Rattle.std.specs.Int.{from_bool}
 use Rattle.byte_strings.specs.Order.{Bytes, begins}
-use Rattle.byte_strings.proofs.Fronts.{begins_take, take_begun, begins_push, begins_pop}
-use Rattle.prefixes.specs.Prefixes.{name_at, lowest, node_of, prefix_of, node_bytes, lengthened}
+use Rattle.byte_strings.proofs.Fronts.{begins_take, take_begun}
+use Rattle.prefixes.specs.Prefixes.{name_at, lowest, node_of, prefix_of, lengthened}
 use Rattle.prefixes.specs.Walks.{byte_at, Group, Node, node_prefix, Divided, rest, transitions, begun_at, Stands, transition_at, left_from, left_behind, left, Passed}
 use Rattle.prefixes.proofs.BytesAfter.{same_some}
 use Rattle.prefixes.proofs.RisingNames.{RisingNames}
@@ -39,11 +39,11 @@ module _ (ns : List Bytes) (s : RisingNames ns) (w : Bytes) (first j floor : ℕ
       | inr t ↦ absurd (none-some _ (sym (tested false t) ∙ h))
     ]
 
-    pub place_left : left ns w false o ≡ map (lengthened ns w) (rest ns w floor)
+    pub place_left : left ns w o ≡ map (lengthened ns w) (rest ns w floor)
     place_left = elim (cases_Bool (ltb j (length ns) && begins w (name_at ns j))) [
-      | inl t ↦ let p = and_parts _ _ t in ap (left ns w false) (tested true t) ∙ left_there (ltb-true _ _ p.0) p.1
+      | inl t ↦ let p = and_parts _ _ t in ap (left ns w) (tested true t) ∙ left_there (ltb-true _ _ p.0) p.1
       | inr t ↦
-          ap (left ns w false) (tested false t)
+          ap (left ns w) (tested false t)
           ∙ sym (ap (map (lengthened ns w)) (over ns s w first j floor c (λ l p. both_ways (ltb j (length ns) && begins w (name_at ns j)) t (and_from _ _ (lt-ltb _ _ l) p))))
     ]
 
@@ -93,7 +93,7 @@ module _ (ns : List Bytes) (s : RisingNames ns) (n : ℕ) (w : Bytes) (given : S
     first_passed = record {
       stands = λ j q. ∣ subst (λ (v : Bytes). Stands ns v j) (sym same) (place_stands ns s (prefix_of ns n) (n / 256) _ 0 place o found j q) ∣₁;
       left =
-          ap (λ v. left ns v false o) same
+          ap (λ v. left ns v o) same
           ∙ place_left ns s (prefix_of ns n) (n / 256) _ 0 place o found
           ∙ sym (ap (map (lengthened ns (prefix_of ns n))) (bytes_of_node ns n (is_node_since ns n node)));
     }
@@ -109,10 +109,6 @@ module _ (ns : List Bytes) (s : RisingNames ns) (n : ℕ) (w : Bytes) (given : S
       let there : i < length ns = (let l = node.within in omega arith) in
       let begun : begins w (name_at ns i) ≡ true = ap (λ v. begins v (name_at ns i)) same ∙ ap (λ m. begins (prefix_of ns n) (name_at ns m)) f ∙ begins_take (n % 256) (name_at ns (n / 256)) in
       first_passed (Some i) (sym (ap (λ v. then_some v i) (and_from _ _ (lt-ltb _ _ there) begun)) ∙ ap (begun_at ns w) e ∙ ap (λ v. begun_at ns w (i + from_bool v)) t)
-
--- a number that is no node has none
-pub none_left : (ns : List Bytes) (n : ℕ) → node_bytes ns n ≡ [] → [] ≡ transitions ns n
-none_left ns n e = sym (ap (map (lengthened ns (prefix_of ns n))) e)
 
 module _ (ns : List Bytes) (s : RisingNames ns) (w : Bytes) (j : ℕ) (c : Stands ns w j) where
   -- the name at which the walk stands goes on from the prefix
@@ -157,71 +153,8 @@ module _ (ns : List Bytes) (s : RisingNames ns) (w : Bytes) (j : ℕ) (c : Stand
       pub next_stands : (m : ℕ) → o ≡ Some m → Stands ns w m
       next_stands = place_stands ns s w c.first k (byte_at ns j (length w) + 1) passed o e
 
-      pub next_left : left ns w false o ≡ left_behind ns w j
+      pub next_left : left ns w o ≡ left_behind ns w j
       next_left = place_left ns s w c.first k (byte_at ns j (length w) + 1) passed o e
-
-  -- the group of name j is that name alone, unless the name behind begins with its front
-  alone : (j + 1 < length ns → begins (take (length w + 1) (name_at ns j)) (name_at ns (j + 1)) ≡ false)
-      → Group ns (take (length w + 1) (name_at ns j)) j (length ns) (j + 1)
-  alone h =
-      let e : j + 1 - 1 ≡ j = omega arith in
-      let t = c.there in
-      record {
-        after = omega arith;
-        within = omega arith;
-        last = ap (λ i. begins (take (length w + 1) (name_at ns j)) (name_at ns i)) e ∙ begins_take (length w + 1) (name_at ns j);
-        stop = h;
-      }
-
-  module _ (k : ℕ) (e : Some k ≡ begun_at ns w (j + 1)) where
-    pub next_is : k ≡ j + 1
-    next_is = elim (cases_Bool (ltb (j + 1) (length ns) && begins w (name_at ns (j + 1)))) [
-      | inl t ↦ same_some (e ∙ ap (λ u. then_some u (j + 1)) t)
-      | inr t ↦ absurd (none-some _ (sym (e ∙ ap (λ u. then_some u (j + 1)) t)))
-    ]
-
-    next_there : (k < length ns) × (begins w (name_at ns k) ≡ true)
-    next_there = elim (cases_Bool (ltb (j + 1) (length ns) && begins w (name_at ns (j + 1)))) [
-      | inl t ↦
-          let p = and_parts (ltb (j + 1) (length ns)) (begins w (name_at ns (j + 1))) t in
-          let l : j + 1 < length ns = ltb-true _ _ p.0 in
-          let i : k ≡ j + 1 = next_is in
-          (omega arith, ap (λ m. begins w (name_at ns m)) next_is ∙ p.1)
-      | inr t ↦ absurd (none-some _ (sym (e ∙ ap (λ u. then_some u (j + 1)) t)))
-    ]
-
-    -- the name behind goes on from the prefix too
-    pub next_longer : length w < length (name_at ns k)
-    next_longer = let i = next_is in c.divided.longer k (omega arith) next_there.0 next_there.1
-
-    -- it begins with the front of name j exactly where it goes on by the same byte
-    pub same_front : byte_at ns k (length w) ≡ byte_at ns j (length w) → begins (take (length w + 1) (name_at ns j)) (name_at ns k) ≡ true
-    same_front h = ap (λ v. begins v (name_at ns k)) front ∙ begins_push w (name_at ns k) (byte_at ns j (length w)) next_there.1 next_longer h
-
-    other_front : (byte_at ns k (length w) ≡ byte_at ns j (length w) → ⊥) → begins (take (length w + 1) (name_at ns j)) (name_at ns k) ≡ false
-    other_front h = elim (cases_Bool (begins (take (length w + 1) (name_at ns j)) (name_at ns k))) [
-      | inr r ↦ r
-      | inl r ↦ absurd (h (begins_pop w (name_at ns k) (byte_at ns j (length w)) (ap (λ v. begins v (name_at ns k)) (sym front) ∙ r)).2)
-    ]
-
-    module _ (h : byte_at ns k (length w) ≡ byte_at ns j (length w) → ⊥) where
-      other : Group ns (take (length w + 1) (name_at ns j)) j (length ns) (j + 1)
-      other = alone (λ _. ap (λ i. begins (take (length w + 1) (name_at ns j)) (name_at ns i)) (sym next_is) ∙ other_front h)
-
-      pub other_stands : (m : ℕ) → Some k ≡ Some m → Stands ns w m
-      other_stands = next_stands (j + 1) other (Some k) e
-
-      pub other_left : left_from ns w k ≡ left_behind ns w j
-      other_left = next_left (j + 1) other (Some k) e
-
-  -- nothing is left behind the group where the name behind does not begin with the prefix
-  pub none_behind : None ≡ begun_at ns w (j + 1) → [] ≡ left_behind ns w j
-  none_behind e = next_left (j + 1) (alone (λ l. elim (cases_Bool (begins (take (length w + 1) (name_at ns j)) (name_at ns (j + 1)))) [
-    | inr r ↦ r
-    | inl r ↦
-        let p = (begins_pop w (name_at ns (j + 1)) (byte_at ns j (length w)) (ap (λ v. begins v (name_at ns (j + 1))) (sym front) ∙ r)).0 in
-        absurd (none-some _ (e ∙ ap (λ u. then_some u (j + 1)) (and_from _ _ (lt-ltb _ _ l) p)))
-  ])) None e
 
 got : (xs : List Transition) (p : ℕ) (x : Transition) (more : List Transition) → drop p xs ≡ x ∷ more → slice_get xs p ≡ Some x
 got [] zero x more e = cc
@@ -247,7 +180,7 @@ module _ (ns : List Bytes) (s : RisingNames ns) (n : ℕ) (w : Bytes) (p : ℕ) 
     pub passed_found : slice_get (transitions ns n) p ≡ Some (transition_at ns w j)
     passed_found = got (transitions ns n) p (transition_at ns w j) (left_behind ns w j) next_left_of
 
-    pub passed_on : (o : Option ℕ) → ((k : ℕ) → o ≡ Some k → ∥ Stands ns w k ∥₁) → left ns w false o ≡ left_behind ns w j → Passed ns n w (p + 1) o
+    pub passed_on : (o : Option ℕ) → ((k : ℕ) → o ≡ Some k → ∥ Stands ns w k ∥₁) → left ns w o ≡ left_behind ns w j → Passed ns n w (p + 1) o
     passed_on o h e =
         let k : p + 1 ≡ suc p = omega arith in
         record {

@@ -1,3 +1,5 @@
 pub mod Prefixes
 pub mod Keys
 pub mod Walks
+pub mod Ends
+pub mod Shared

@@ -1,10 +1,8 @@
 -- The walk over the transitions of a node, from one group of names to the next. Assumes nothing.
-use Rattle.std.specs.Prelude.{◌≡◌, ℕ, ◌+◌, ◌-◌, ◌/◌, ◌%◌, ◌<◌, ◌≤◌, ◌&&◌, Bool, true, false, cond, List, [], length, map, drop, Some, None, Option, nat_lt, slice_index}
+use Rattle.std.specs.Prelude.{◌≡◌, ℕ, ◌+◌, ◌-◌, ◌/◌, ◌%◌, ◌<◌, ◌≤◌, ◌&&◌, true, false, List, [], length, map, drop, Some, None, Option, nat_lt, slice_index}
 use Rattle.byte_strings.specs.Order.{Bytes, begins}
 use Rattle.std.specs.Bool.{then_some}
-use Rattle.std.specs.List.{slice_get}
 use Rattle.graph.specs.declared.Transition.{Transition}
-use Rattle.graph.specs.Table.{Table}
 use Rattle.prefixes.specs.Prefixes.{name_at, lowest, prefix_of, is_node, bytes_after, node_bytes, lengthened}
 
 -- byte d of name j, and 0 beyond its end
@@ -69,18 +67,12 @@ left_from ns w j = map (lengthened ns w) (rest ns w (byte_at ns j (length w)))
 abbrev pub left_behind : List Bytes → Bytes → ℕ → List Transition
 left_behind ns w j = map (lengthened ns w) (rest ns w (byte_at ns j (length w) + 1))
 
--- the transitions that a walk has left, where it stands, and where it has given the one at which it stands
-abbrev pub left : List Bytes → Bytes → Bool → Option ℕ → List Transition
-left ns w given None = []
-left ns w given (Some j) = cond given (left_behind ns w j) (left_from ns w j)
+-- the transitions that a walk has left, where it stands
+abbrev pub left : List Bytes → Bytes → Option ℕ → List Transition
+left ns w None = []
+left ns w (Some j) = left_from ns w j
 
 -- so many transitions of node n, whose prefix is w, are passed; o is the lowest name of the next one's group
 pub record Passed (ns : List Bytes) (n : ℕ) (w : Bytes) (p : ℕ) (o : Option ℕ) : Type 0 where
   pub stands : (j : ℕ) → o ≡ Some j → ∥ Stands ns w j ∥₁
-  pub left : left ns w false o ≡ drop p (transitions ns n)
-
--- ts are the transitions of node n of a table, in order: few enough to count
-pub record Lists (t : Table) (n : ℕ) (ts : List Transition) : Type 0 where
-  pub count : length ts ≡ t.len n
-  pub at : (p : ℕ) → slice_get ts p ≡ t.transition n p
-  pub few : length ts ≤ 256
+  pub left : left ns w o ≡ drop p (transitions ns n)

@@ -1,5 +1,5 @@
 -- The places of a node's transitions. Assumes nothing.
-use Rattle.std.proofs.Common.{◌≡◌, ℕ, zero, suc, ◌+◌, ◌<◌, ◌≤◌, ◌≢◌, Bool, true, false, eqb, ltb, Some, None, sym, ap, ◌∙◌, arith}
+use Rattle.std.proofs.Common.{◌≡◌, ℕ, zero, suc, ◌+◌, ◌<◌, ◌≤◌, ◌≢◌, ◌⊎◌, Bool, true, false, eqb, ltb, Some, None, sym, ap, ◌∙◌, arith}
 use native.Mathlib.Decide.{ℕ_discrete}
 use Rattle.graph.specs.declared.Transition.{Transition}
 use Rattle.graph.specs.Table.{Table, Lawful, Finds}
@@ -35,6 +35,21 @@ module _ (g : Table) (law : Lawful g) (n b : ℕ) where
     where
       there : p < 0 + g.len n → ⊥
       there z = let (t, d) = law.present n p (omega arith) in cc
+
+  -- as `first_above` goes on: from position p, by strides of s positions
+  abbrev pub Strides : ℕ → ℕ → Type 0
+  Strides p s = NoneAbove p × (p ≤ 256) × ((s ≡ 64) ⊎ (s ≡ 8) ⊎ (s ≡ 1))
+
+  -- the byte of a stride's last position q is its greatest
+  pub stride_passed : (q : ℕ) (t : Transition) → g.transition n q ≡ Some t → t.byte ≤ b → NoneAbove (suc q)
+  stride_passed q t e h = (inside g law n q t e, λ i l. go i l (ℕ_discrete i q))
+    where
+      go : (i : ℕ) → i < suc q → Dec (i ≡ q) → ltb b (byte_at g n i) ≡ false
+      go i l (yes same) = let d = byte_there q t e in search arith
+      go i l (no other) =
+          let d = byte_there q t e in
+          let r = rising g law n i q (omega arith) (inside g law n q t e) in
+          search arith
 
   found_place : (p : ℕ) (t : Transition) → g.transition n p ≡ Some t → t.byte ≡ b → place_of g n b ≡ p
   found_place p t e h =

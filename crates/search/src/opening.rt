@@ -15,6 +15,12 @@ use graph::{Graph, Transition};
 use law::Row;
 use stack::Stack;
 
+/// How many positions the first strides towards a place go over: a node has at most 256.
+const WIDE: usize = 64;
+
+/// How many times shorter the next strides are: 64, 8 and 1 positions.
+const SHORTER: usize = 8;
+
 /// What opening comes to: the rows in use, and the total that waits for the empty key.
 #[derive(Debug, Drop)]
 pub(crate) struct Opened {
@@ -30,14 +36,17 @@ struct Found {
 }
 
 /// The position of the first transition whose byte is greater, or the number of transitions.
-#[tactic(auto, using(crate::proofs::Looks::position_small, crate::proofs::Places::first_above_here, crate::proofs::Places::none_is_above))]
+#[tactic(auto, using(crate::proofs::Looks::position_small, crate::proofs::Places::stride_passed, crate::proofs::Places::first_above_here, crate::proofs::Places::none_is_above))]
 fn first_above<G: Graph>(graph: &G, node: u32, byte: u8) -> usize
     ensures { result ≡ place_above (G.table graph.now) node byte }
 {
+    // bytes rise, so the last byte of a stride tells for all of it
     let mut position = 0;
+    let mut stride = WIDE;
     loop {
-        match graph.transition(node, position) {
-            Some(transition) if transition.byte <= byte => position += 1,
+        match graph.transition(node, position + stride - 1) {
+            Some(transition) if transition.byte <= byte => position += stride,
+            _ if stride > 1 => stride /= SHORTER,
             _ => break position,
         }
     }

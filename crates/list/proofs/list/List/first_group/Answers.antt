@@ -1,18 +1,19 @@
-use Rattle.prefixes.proofs.Stands.{after_whole, at_longer}
+use Rattle.std.proofs.Common.{ap, sym, ◌∙◌}
+use Rattle.list.specs.Groups.{placed}
 use Rattle.list.specs.Opened.{names_in}
-use Rattle.list.specs.Held.{names_rise}
+use Rattle.list.proofs.Placed.{node_within, first_behind}
 use Rattle.list.proofs.list.List.first_group.Goals as goal
 
-pub returns-then-is_whole : goal.returns-then-is_whole
-returns-then-is_whole c =
-    let l = c.args.self.now in
-    let p = c.from-first.result in
-    let e = c.from-first.ensures in
-    after_whole (names_in l) (names_rise l) c.args.node c.args.prefix.now c.requires p.name p.len e.0 e.1 c.if-is_whole.ensures c.begun.result c.begun.ensures
+pub is_whole-requires : goal.is_whole-requires
+is_whole-requires c = node_within c.args.self.now c.args.node c.requires
 
-pub returns-else-is_whole : goal.returns-else-is_whole
-returns-else-is_whole c =
-    let l = c.args.self.now in
-    let p = c.from-first.result in
-    let e = c.from-first.ensures in
-    at_longer (names_in l) (names_rise l) c.args.node c.args.prefix.now c.requires p.name p.len e.0 e.1 c.if-is_whole.ensures
+pub returns-in_err-lowest : goal.returns-in_err-lowest
+returns-in_err-lowest c =
+    let e = c.into-name.ensures in
+    c.from_residual.ensures
+    ∙ ap (placed 0) (c.in_err-lowest.ensures ∙ sym (first_behind (names_in c.args.self.now) c.args.node _ _ e.0 e.1 (sym c.is_whole.ensures ∙ c.if-is_whole.true)))
+
+pub returns-in_ok-lowest : goal.returns-in_ok-lowest
+returns-in_ok-lowest c =
+    let e = c.into-name.ensures in
+    ap (placed 0) (c.in_ok-lowest.ensures ∙ sym (first_behind (names_in c.args.self.now) c.args.node _ _ e.0 e.1 (sym c.is_whole.ensures ∙ c.if-is_whole.true)))
