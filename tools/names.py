@@ -46,6 +46,12 @@ def wide(width):
     return [bytes((first, second)) for first in letters for second in letters]
 
 
+def beside(length, width):
+    """One name, and beside each of its beginnings so many others: the first group of each node is as long as it can be."""
+    stem, others = b" " * length, range(255 - width, 255)
+    return sorted([stem] + [stem[:depth] + bytes((last,)) for depth in range(length) for last in others])
+
+
 def main():
     options = argparse.ArgumentParser(description=__doc__.splitlines()[0])
     options.add_argument("--count", type=int, default=50000)

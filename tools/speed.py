@@ -19,7 +19,7 @@ import pathlib
 import subprocess
 import tempfile
 
-from names import names, repeated, wide
+from names import beside, names, repeated, wide
 from trie import MOST_NODES, catalogue, held
 
 ROOT = pathlib.Path(__file__).resolve().parent.parent
@@ -156,6 +156,7 @@ def growing():
         yield f"likeness: the same {children} names under each of 50", repeated(50, children)
     for width in (16, 64, 224):
         yield f"width: {width} transitions a node", wide(width)
+    yield "first groups: 222 names beside each beginning of one of 240 bytes", beside(240, 222)
 
 
 def growth(programs, runs, rounds):
