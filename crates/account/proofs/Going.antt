@@ -9,7 +9,7 @@ use Rattle.law.specs.Entries as law
 use Rattle.law.specs.Entries.{Lists}
 use Rattle.law.specs.Values.{Search, View, Answer, Handed, End, Refused}
 use Rattle.law.specs.History.{History, Serves, entries}
-use Rattle.law.specs.Theorems.{Fits}
+use Rattle.law.specs.Paths.{Fits}
 use Rattle.law.specs.Calls.{NextLaw, GoesOn, CloseLaw, OpenLaw}
 use Rattle.law.proofs.Kept.{listable}
 use Rattle.law.proofs.Unique.{determined}
@@ -40,7 +40,7 @@ begun {S} l m start s rows area h r b = record {
   lawful = l;
   lawful_filter = m;
   handed = [];
-  history = h;
+  history = h.history;
   told = told_nothing S start;
   rows = r;
   bytes = b;
@@ -58,8 +58,8 @@ module _ {S : Type 0} {g : Table} {f : Filter S} {lower upper : BoundValue} {sta
       abbrev given : law.Entry S
       given = record { key = take n z.key_area; total = t; state = s }
 
-      fits : Fits g (Handed n t s) z on.rest
-      fits = subst (λ (b : Answer S). Fits g b z on.rest) e on.fits
+      fits : Fits g f lower upper y on.rest (Handed n t s) z
+      fits = subst (λ (b : Answer S). Fits g f lower upper y on.rest b z) e on.fits
 
       pub key_inside : n ≤ length z.key_area
       key_inside = fits.0
@@ -84,7 +84,8 @@ module _ {S : Type 0} {g : Table} {f : Filter S} {lower upper : BoundValue} {sta
       unfolding count_of_all
       counts lawful =
           let l = listable g f lower upper lawful in
-          let (inside, later, p) = fits in
+          let later = fits.1.later in
+          let p = fits.1.head in
           let c = on.counted in
           let d : z.search.count ≡ length (i.handed ++ (given ∷ [])) = on.counted_after ∙ ap length more in
           let m : length (i.handed ++ (given ∷ [])) ≡ length i.handed + 1 = length-append i.handed (given ∷ []) in
@@ -96,16 +97,14 @@ module _ {S : Type 0} {g : Table} {f : Filter S} {lower upper : BoundValue} {sta
     module _ {a : Asked} (s : Searches g f lower upper a) where
       pub ends : x ≡ End → (n : ℕ) → CloseLaw S z.search n → (after : Bytes) → after ≡ out ++ end_line n → after ≡ start ++ report 0 (entries_of a)
       ends e n closed after p =
-          let none : on.rest ≡ [] = subst (λ (b : Answer S). Fits g b z on.rest) e on.fits in
+          let none : on.rest ≡ [] = (subst (λ (b : Answer S). Fits g f lower upper y on.rest b z) e on.fits).0.none_owed in
           let all = subst (λ es. Lists g f lower upper es) (ap (λ es. i.handed ++ es) none ∙ append-nil i.handed) on.whole in
           let same : i.handed ++ entries x z.key_area ≡ i.handed = ap (λ (b : Answer S). i.handed ++ entries b z.key_area) e ∙ append-nil i.handed in
           let m : n ≡ length i.handed =
           closed.counted g f i.lawful i.lawful_filter lower upper z (i.handed ++ entries x z.key_area) on.after refl ∙ ap length same in
           told_all start g f lower upper a s out i.handed i.told all after (p ∙ ap (λ k. out ++ end_line k) m)
 
-      pub stops : (c : ℕ) → x ≡ Refused c → 256 ≤ length z.rows → 255 ≤ length z.key_area
-          → out ++ refused_line 16 ≡ start ++ report 0 (entries_of a)
-      stops c e r b =
-          let same : i.handed ++ entries x z.key_area ≡ i.handed = ap (λ (d : Answer S). i.handed ++ entries d z.key_area) e ∙ append-nil i.handed in
-          (told_refused start g f lower upper a s out i.handed i.told z on.rest c on.whole (on.counted_after ∙ ap length same) r b
-          (subst (λ (d : Answer S). Fits g d z on.rest) e on.fits)).1
+      pub stops : (c : ℕ) → x ≡ Refused c → out ++ refused_line 16 ≡ start ++ report 0 (entries_of a)
+      stops c e =
+          let (v, why, left, stands) = subst (λ (d : Answer S). Fits g f lower upper y on.rest d z) e on.fits in
+          (told_refused start g f lower upper a s out i.handed i.told y on.rest v c on.whole on.counted i.rows i.bytes why).1

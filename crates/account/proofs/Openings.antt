@@ -1,5 +1,5 @@
 -- Why a search for what is asked is opened or refused, with 256 rows and 255 key bytes. Assumes nothing.
-use Rattle.std.proofs.Common.{◌≡◌, ℕ, ◌<◌, ◌≤◌, Bool, true, false, cond, ltb, leb, ◌⊎◌, List, [], length, sym, refl, ap, subst, inl, inr, arith, leb-false}
+use Rattle.std.proofs.Common.{◌≡◌, ℕ, ◌<◌, ◌≤◌, Bool, true, false, cond, ltb, leb, ◌⊎◌, List, [], ◌∷◌, ◌++◌, length, sym, refl, ap, subst, inl, inr, arith, leb-false}
 use Rattle.std.proofs.lemmas.Bool.{cases_lt, lt-ltb, le-ltb, cond-true, cond-false}
 use Rattle.byte_strings.specs.Order.{Bytes, ◌≺◌}
 use Rattle.bound.specs.Value.{BoundValue, bytes_of}
@@ -33,9 +33,9 @@ module _ {S : Type 0} (g : Table) (f : Filter S) (lower upper : BoundValue) (a :
   -- an opening is refused only where the lower bound is too long
   pub open_refused : (rows bytes c : ℕ) → 256 ≤ rows → 255 ≤ bytes → OpenReason g lower rows bytes c → 255 < length (bytes_of lower)
   open_refused rows bytes c h l (too_few_rows k) = omega arith
-  open_refused rows bytes c h l (too_few_bytes k) = omega arith
-  open_refused rows bytes c h l (path_too_large w v m u d p k) = let e = s.path_total w m u p in let n = s.shift_fits in absurd (omega arith)
-  open_refused rows bytes c h l (empty_key_too_large t p k) =
+  open_refused rows bytes c h l (too_few_bytes i k) = omega arith
+  open_refused rows bytes c h l (path_too_large i j w b v m u d p k) = let e = s.path_total (w ++ (b ∷ [])) m u p in let n = s.shift_fits in absurd (omega arith)
+  open_refused rows bytes c h l (empty_key_too_large j o q t p k) =
       let (i, n, d, e) = s.key_is_name [] t p in
       let z = first i n d (cases_lt 0 i) in
       let q = s.shift_fits in

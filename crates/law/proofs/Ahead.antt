@@ -6,10 +6,11 @@ use Rattle.byte_strings.specs.Order.{Bytes, ◌≺◌}
 use Rattle.filter.specs.Filter.{Filter, Lawful as LawfulFilter, run, verdict_at, verdict_by}
 use Rattle.graph.specs.Keys.{Key}
 use Rattle.graph.specs.Table.{Lawful, Table}
-use Rattle.law.proofs.Positions.{LeadsBy, by_positions}
+use Rattle.law.proofs.Positions.{LeadsBy, Path, path_of}
 use Rattle.law.specs.declared.Row.{Row}
 use Rattle.law.specs.Values.{byte_at, output_at, target_at}
 use Rattle.law.specs.Next.{leads_nowhere}
+use Rattle.law.specs.Standing.{Ahead}
 use Rattle.law.proofs.Positions.{rising}
 use Rattle.byte_strings.proofs.Orders.{less_cons, differ, agree, transitive}
 use Rattle.law.proofs.Order.{none_below}
@@ -58,20 +59,12 @@ run_on f s [] v = refl
 run_on f s (b ∷ w) v = run_on f (f.accept s b) w v
 
 module _ (g : Table) where
-  -- the transitions before position p have bytes below b
-  abbrev pub Passed : ℕ → ℕ → ℕ → Type 0
-  Passed n p b = (q : ℕ) → q < p → q < g.len n → byte_at g n q < b
-
-  -- k stands behind w, and if it goes on from w, then by a transition of node n that is not yet passed
-  abbrev pub Ahead : Bytes → ℕ → ℕ → Bytes → Type 0
-  Ahead w n p k = (w ≺ k) × ((b : ℕ) (u : Bytes) → k ≡ w ++ (b ∷ u) → Passed n p b)
-
   module _ (law : Lawful g) where
     -- a key that goes on from w uses a transition of the node that w leads to
-    pub through : (k : Bytes) (t : ℕ) → Key g k t → (w : Bytes) (n s : ℕ) → LeadsBy g g.root g.first_total w n s → (b : ℕ) (u : Bytes) → k ≡ w ++ (b ∷ u) →
+    pub through : (k : Bytes) → Path g k → (w : Bytes) (n s : ℕ) → LeadsBy g g.root g.first_total w n s → (b : ℕ) (u : Bytes) → k ≡ w ++ (b ∷ u) →
         (j : ℕ) × (j < g.len n) × (byte_at g n j ≡ b)
-    through k t x w n s l b u e =
-        let (i, r, a, c) = leads_apart g g.root g.first_total w (b ∷ u) x.node x.sum (by_positions g law g.root g.first_total (w ++ (b ∷ u)) x.node x.sum (rw e at x.path)) in
+    through k x w n s l b u e =
+        let (i, r, a, c) = leads_apart g g.root g.first_total w (b ∷ u) x.0 x.1 (rw e at x.2) in
         let d = (one_end g law g.root g.first_total w i r n s a l).0 in
         (c.0, rw d at c.1, rw d at c.2)
 
@@ -83,9 +76,9 @@ module _ (g : Table) where
         go (no m) = let d = rising g law n p q (omega arith) l in omega arith
 
     -- forward from the row at position p, with the byte c there
-    pub onto : (k : Bytes) (t : ℕ) → Key g k t → (w : Bytes) (n s p : ℕ) → LeadsBy g g.root g.first_total w n s → p < g.len n →
-        Ahead w n p k → (k ≡ w ++ (byte_at g n p ∷ [])) ⊎ ((w ++ (byte_at g n p ∷ [])) ≺ k)
-    onto k t x w n s p l h a = go (split w k a.0)
+    pub onto : (k : Bytes) → Path g k → (w : Bytes) (n s p : ℕ) → LeadsBy g g.root g.first_total w n s → p < g.len n →
+        Ahead g w n p k → (k ≡ w ++ (byte_at g n p ∷ [])) ⊎ ((w ++ (byte_at g n p ∷ [])) ≺ k)
+    onto k x w n s p l h a = go (split w k a.0)
       where
         c : ℕ
         c = byte_at g n p
@@ -100,13 +93,13 @@ module _ (g : Table) where
         go (inl (b, u, e)) = near b u e bound (ℕ_discrete c b)
           where
             bound : c ≤ b
-            bound = let (j, jl, je) = through k t x w n s l b u e in at j jl je (dec_lt j p)
+            bound = let (j, jl, je) = through k x w n s l b u e in at j jl je (dec_lt j p)
               where
                 at : (j : ℕ) → j < g.len n → byte_at g n j ≡ b → Dec (j < p) → c ≤ b
                 at j jl je (yes i) = let z = a.1 b u e j i jl in absurd (omega arith)
                 at j jl je (no i) = let z = rising_at_most n p j (omega arith) jl in omega arith
 
-    pub at_once : (w : Bytes) (n p : ℕ) → p < g.len n → Ahead w n p (w ++ (byte_at g n p ∷ []))
+    pub at_once : (w : Bytes) (n p : ℕ) → p < g.len n → Ahead g w n p (w ++ (byte_at g n p ∷ []))
     at_once w n p h = (shorter w (byte_at g n p) [], λ b u e q l m. let d = (same_byte w (byte_at g n p) b [] u e).0 in let z = rising g law n q p l h in omega arith)
 
     -- b stands not before c
@@ -117,7 +110,7 @@ module _ (g : Table) where
         go (inl l) = omega arith
         go (inr (e, m)) = omega arith
 
-    pub back_from : (w : Bytes) (n p : ℕ) (k : Bytes) → p < g.len n → (w ++ (byte_at g n p ∷ [])) ≺ k → Ahead w n p k
+    pub back_from : (w : Bytes) (n p : ℕ) (k : Bytes) → p < g.len n → (w ++ (byte_at g n p ∷ [])) ≺ k → Ahead g w n p k
     back_from w n p k h t = (
       transitive w (w ++ (byte_at g n p ∷ [])) k (shorter w (byte_at g n p) []) t,
       λ b u e q l m.
@@ -127,8 +120,8 @@ module _ (g : Table) where
     )
 
     -- a removed row at w ++ [c], and the row beneath it, whose transition before its position has the byte c
-    pub off : (w : Bytes) (m i n p : ℕ) (k : Bytes) → p < g.len n → Ahead (w ++ (byte_at g n p ∷ [])) m i k →
-        ((b : ℕ) (u : Bytes) → k ≡ (w ++ (byte_at g n p ∷ [])) ++ (b ∷ u) → ⊥) → Ahead w n (suc p) k
+    pub off : (w : Bytes) (m i n p : ℕ) (k : Bytes) → p < g.len n → Ahead g (w ++ (byte_at g n p ∷ [])) m i k →
+        ((b : ℕ) (u : Bytes) → k ≡ (w ++ (byte_at g n p ∷ [])) ++ (b ∷ u) → ⊥) → Ahead g w n (suc p) k
     off w m i n p k h a stop = (
       transitive w (w ++ (byte_at g n p ∷ [])) k (shorter w (byte_at g n p) []) a.0,
       λ b u e q l z.
@@ -148,7 +141,7 @@ module _ (g : Table) where
             go (inr (x, t)) [] d = absurd (none_below [] (rw d at t))
             go (inr (x, t)) (y ∷ v) d = absurd (stop y v (e ∙ ap (λ (z : ℕ). w ++ (z ∷ u)) (sym x) ∙ ap (λ (z : Bytes). w ++ (c ∷ z)) d ∙ sym (append_assoc w (c ∷ []) (y ∷ v))))
 
-    pub off_back : (w : Bytes) (m i n p : ℕ) (k : Bytes) → p < g.len n → Ahead w n (suc p) k → Ahead (w ++ (byte_at g n p ∷ [])) m i k
+    pub off_back : (w : Bytes) (m i n p : ℕ) (k : Bytes) → p < g.len n → Ahead g w n (suc p) k → Ahead g (w ++ (byte_at g n p ∷ [])) m i k
     off_back w m i n p k h a = (go (split w k a.0), λ b u e. absurd (no_more b u e))
       where
         c : ℕ
@@ -163,7 +156,7 @@ module _ (g : Table) where
 
     -- no accepted key goes on from a leads-nowhere row
     pub stuck : {S : Type 0} (f : Filter S) → LawfulFilter f → (k : Bytes) (t : ℕ) → Key g k t → verdict_at f (run f f.start k) ≡ true → (w : Bytes) (r : Row S) →
-        LeadsBy g g.root g.first_total w r.node r.total → r.state ≡ run f f.start w → leads_nowhere g f r ≡ true → Ahead w r.node r.position k →
+        LeadsBy g g.root g.first_total w r.node r.total → r.state ≡ run f f.start w → leads_nowhere g f r ≡ true → Ahead g w r.node r.position k →
         (b : ℕ) (u : Bytes) → k ≡ w ++ (b ∷ u) → ⊥
     stuck {S} f lawful k t x acc w r l st sp a b u e = go (ltb r.position (g.len r.node)) (f.can_match r.state) refl refl sp
       where
@@ -190,7 +183,7 @@ module _ (g : Table) where
 
         absent : ltb r.position (g.len r.node) ≡ false → ⊥
         absent p =
-            let (j, jl, je) = through k t x w r.node r.total l b u e in
+            let (j, jl, je) = through k (path_of g law x) w r.node r.total l b u e in
             let h = ltb-false r.position (g.len r.node) p in
             let z = a.1 b u e j (omega arith) jl in
             omega arith

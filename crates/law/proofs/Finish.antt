@@ -5,9 +5,10 @@ use Rattle.byte_strings.specs.Order.{Bytes}
 use Rattle.filter.specs.Filter.{Filter, Lawful as LawfulFilter, verdict_at}
 use Rattle.graph.specs.Table.{Lawful, Table}
 use Rattle.law.specs.Values.{Answer, End, Handed, Refused, Result, Search, View, at_depth, byte_at, handed_out, is_admitted, most_keys, onward, output_at, target_at, too_short, with_search, without_key, without_waiting}
-use Rattle.law.specs.Theorems.{Reason, stack_full, key_area_full, path_too_large, total_too_large, count_full, Fits, TotalsFit, AreasSuffice, Exhausted, CanBeExhausted}
+use Rattle.law.specs.Paths.{Reason, stack_full, key_area_full, path_too_large, total_too_large, count_full, Stops, Follows}
+use Rattle.law.specs.Theorems.{TotalsFit, AreasSuffice, Exhausted, CanBeExhausted, Explains}
 use Rattle.law.specs.Next.{Done, More, Move, Walks, begin, deeper, goes, next_of, top_look, stops, walk, written}
-use Rattle.graph.specs.Keys.{Leads}
+use Rattle.graph.specs.Keys.{Leads, Key}
 use Rattle.law.proofs.Members.{in_right}
 use Rattle.law.specs.Entries.{◌∈◌, Entry, Lists}
 use Rattle.law.specs.History.{History, Serves, entries, given_out, next}
@@ -48,7 +49,7 @@ module _ {S : Type 0} (g : Table) (f : Filter S) (law : Lawful g) where
   move_size x m (removed d e s eq) = subst (λ (n : Move S). SameSize x (view_of n)) (sym eq) (record { rows = refl; key_area = refl })
   move_size x m (refused c d e w eq) = subst (λ (n : Move S). SameSize x (view_of n)) (sym eq) (unchanged x)
   move_size x m (beyond d e w u eq) = subst (λ (n : Move S). SameSize x (view_of n)) (sym eq) (let s = grown_same x d in record { rows = s.rows; key_area = s.key_area })
-  move_size x m (given d e w u c eq) = subst (λ (n : Move S). SameSize x (view_of n)) (sym eq) (let s = grown_same x d in record { rows = s.rows; key_area = s.key_area })
+  move_size x m (given d e w u c i j eq) = subst (λ (n : Move S). SameSize x (view_of n)) (sym eq) (let s = grown_same x d in record { rows = s.rows; key_area = s.key_area })
   move_size x m (passed d e w u c eq) = subst (λ (n : Move S). SameSize x (view_of n)) (sym eq) (grown_same x d)
 
   walk_size : (n : ℕ) (x : View S) (r : Result S) → Walks g f n x r → SameSize x r.left
@@ -85,7 +86,7 @@ module _ {S : Type 0} (g : Table) (f : Filter S) (law : Lawful g) where
       at_all false (Some t) = firsts t (is_admitted x.search.upper []) (verdict_at f f.start) (eqb x.search.count most_keys)
 
   module _ (lo hi : BoundValue) (lawful : LawfulFilter f) where
-    module _ (fit : TotalsFit g) (few : (fs : List (Entry S)) → Lists g f lo hi fs → length fs < most_keys) where
+    module _ (fit : TotalsFit g) (few : (fs : List (Entry S)) → Lists g f lo hi fs → length fs ≤ most_keys) where
       abbrev Ended : Type 0
       Ended = (s : Search) × (fs : List (Entry S)) × Exhausted g f lo hi s fs
 
@@ -114,27 +115,32 @@ module _ {S : Type 0} (g : Table) (f : Filter S) (law : Lawful g) where
             let k = leads_height g law g.root g.first_total w m u (by_positions g law g.root g.first_total w m u l) in
             omega arith
 
-        no_reason : (rest : List (Entry S)) → Lists g f lo hi (es ++ rest) → (c : ℕ) → (next_of g f y).answer ≡ Refused c → Reason g (next_of g f y).left rest c → ⊥
-        no_reason rest whole c e (stack_full w m u p i l) = let k = path_short w m u p in let a = (ample_still y am).rows in omega arith
-        no_reason rest whole c e (key_area_full w m u p i l) = let k = path_short w m u p in let a = (ample_still y am).bytes in omega arith
-        no_reason rest whole c e (path_too_large w m u p d l) = let b = fit.paths w m u p in omega arith
-        no_reason rest whole c e (total_too_large x later p l) =
-            let b = (whole.exact x).0 (in_right x es rest (subst (λ (z : List (Entry S)). x ∈ z) (sym p) (inl refl))) in
-            let k = fit.keys x.key x.total b.is_key in
-            omega arith
-        no_reason rest whole c e (count_full x later p l) =
-            let n = few (es ++ rest) whole in
-            let o = handed_out_is_front g f lo hi law lawful (next_of g f y).left (es ++ given_out (next_of g f y)) gone_on in
-            let k = o.counted in
-            let i : length (es ++ given_out (next_of g f y)) ≡ length (es ++ []) = ap (λ (a : Answer S). length (es ++ entries a (next_of g f y).left.key_area)) e in
-            let j = ap length (append-nil es) in
-            let b = length-append es rest in
-            omega arith
+        no_reason : (coming : Bytes → Type 0) (rest : List (Entry S)) → Lists g f lo hi (es ++ rest) → (v : Bytes) (c : ℕ) →
+            Reason g f lo hi coming (length y.rows) (length y.key_area) y.search.count rest v c → ⊥
+        no_reason coming rest whole v c (u, m, s) = go s
+          where
+            next_key : (t : ℕ) (r : S) (later : List (Entry S)) → rest ≡ record { key = v; total = t; state = r } ∷ later → Key g v t
+            next_key t r later p =
+                let e : Entry S = record { key = v; total = t; state = r } in
+                ((whole.exact e).0 (in_right e es rest (subst (λ (z : List (Entry S)). e ∈ z) (sym p) (inl refl)))).is_key
 
-        by_answer : (rest : List (Entry S)) → Lists g f lo hi (es ++ rest) → (a : Answer S) → (next_of g f y).answer ≡ a → Fits g a (next_of g f y).left rest →
+            go : {c : ℕ} → Stops (length y.rows) (length y.key_area) y.search.count rest v u c → ⊥
+            go (stack_full l) = let k = path_short v m.path.node u m.path.leads in let a = am.rows in omega arith
+            go (key_area_full i l) = let k = path_short v m.path.node u m.path.leads in let a = am.bytes in omega arith
+            go (path_too_large i l) = let b = fit.paths v m.path.node u m.path.leads in omega arith
+            go (total_too_large i t (r, later, p) l) = let k = fit.keys v t (next_key t r later p) in omega arith
+            go (count_full i t (r, later, p) j l) =
+                let n = few (es ++ rest) whole in
+                let k = (handed_out_is_front g f lo hi law lawful y es h).counted in
+                let b = length-append es rest in
+                let q : length rest ≡ suc (length later) = ap length p in
+                omega arith
+
+        by_answer : (coming : Bytes → Type 0) (rest : List (Entry S)) → Lists g f lo hi (es ++ rest) → (a : Answer S) → (next_of g f y).answer ≡ a →
+            Explains g f lo hi coming (length y.rows) (length y.key_area) y.search.count rest a (next_of g f y).left →
             ((k t : ℕ) (s : S) (tail : List (Entry S)) → (next_of g f y).answer ≡ Handed k t s → length rest ≡ suc (length tail) → Ended) → Ended
-        by_answer rest whole (Handed k t s) e (l, tail, p) on = on k t s tail e (ap length p)
-        by_answer rest whole End e p on = (
+        by_answer coming rest whole (Handed k t s) e (l, p, o) on = on k t s p.later e (ap length p.head)
+        by_answer coming rest whole End e p on = (
           (next_of g f y).left.search,
           es,
           record {
@@ -147,16 +153,16 @@ module _ {S : Type 0} (g : Table) (f : Filter S) (law : Lawful g) where
             left = refl;
           },
         )
-        by_answer rest whole (Refused c) e p on = absurd (no_reason rest whole c e p)
+        by_answer coming rest whole (Refused c) e (v, p, o) on = absurd (no_reason coming rest whole v c p)
 
       finish : (n : ℕ) (y : View S) (es : List (Entry S)) → History g f lo hi y es → AreasSuffice g y → ((fs : List (Entry S)) → Lists g f lo hi fs → length fs ≤ length es + n) → Ended
       finish zero y es h am bound =
           let o = handed_out_is_front g f lo hi law lawful y es h in
-          by_answer y es h am o.rest o.whole (next_of g f y).answer refl (o.following y (spare y es h am) (serves_itself y))
+          by_answer y es h am (Follows o.place) o.rest o.whole (next_of g f y).answer refl (o.following y (spare y es h am) (serves_itself y) o.place o.stands)
           (λ k t s tail e p. let b = bound (es ++ o.rest) o.whole in let l = length-append es o.rest in absurd (omega arith))
       finish (suc n) y es h am bound =
           let o = handed_out_is_front g f lo hi law lawful y es h in
-          by_answer y es h am o.rest o.whole (next_of g f y).answer refl (o.following y (spare y es h am) (serves_itself y))
+          by_answer y es h am (Follows o.place) o.rest o.whole (next_of g f y).answer refl (o.following y (spare y es h am) (serves_itself y) o.place o.stands)
           (λ k t s tail e p. finish n (next_of g f y).left (es ++ given_out (next_of g f y)) (gone_on y es h am) (ample_still y am)
           (λ fs l.
           let b = bound fs l in

@@ -4,11 +4,11 @@ use Rattle.bound.specs.Value.{BoundValue}
 use Rattle.bound.specs.Within.{is_reached}
 use Rattle.byte_strings.specs.Order.{Bytes, ◌≺◌}
 use Rattle.filter.specs.Filter.{Filter}
-use Rattle.graph.specs.Keys.{Key}
 use Rattle.graph.specs.Table.{Lawful, Table}
 use Rattle.law.specs.Entries.{Belongs, Entry, Lists, Rises, ◌∈◌}
 use Rattle.byte_strings.proofs.Orders.{irreflexive}
 use Rattle.law.proofs.Members.{in_left, in_right, in_either, rises_join, rises_across}
+use Rattle.law.proofs.Positions.{Path}
 use Rattle.law.proofs.Unique.{one_entry}
 use Rattle.law.proofs.Resume.{front_of}
 use Rattle.law.proofs.Kept.{listable}
@@ -20,7 +20,7 @@ module _ {S : Type 0} (g : Table) (f : Filter S) (lo hi : BoundValue) where
     pub belong : (e : Entry S) → e ∈ es → Belongs g f lo hi e
     pub before : (e : Entry S) → e ∈ es → (k : Bytes) → P k → e.key ≺ k
     pub all : (e : Entry S) → Belongs g f lo hi e → (e ∈ es) ⊎ P e.key
-    pub sound : (k : Bytes) (t : ℕ) → Key g k t → P k → T (is_reached lo k)
+    pub sound : (k : Bytes) → Path g k → P k → T (is_reached lo k)
 
   pub frame_same : (P Q : Bytes → Type 0) (es : List (Entry S)) → Frame P es →
       ((e : Entry S) → Belongs g f lo hi e → P e.key → Q e.key) → ((k : Bytes) → Q k → P k) → Frame Q es
@@ -29,7 +29,7 @@ module _ {S : Type 0} (g : Table) (f : Filter S) (lo hi : BoundValue) where
     belong = fr.belong;
     before = λ e m k q. fr.before e m k (back k q);
     all = λ e b. go e b (fr.all e b);
-    sound = λ k t x q. fr.sound k t x (back k q);
+    sound = λ k x q. fr.sound k x (back k q);
   }
     where
       go : (e : Entry S) → Belongs g f lo hi e → (e ∈ es) ⊎ P e.key → (e ∈ es) ⊎ Q e.key
@@ -45,7 +45,7 @@ module _ {S : Type 0} (g : Table) (f : Filter S) (lo hi : BoundValue) where
       belong = λ x m. bel x (in_either x es (e ∷ []) m);
       before = λ x m k q. bef x k q (in_either x es (e ∷ []) m);
       all = λ x b. everything x b (fr.all x b);
-      sound = λ k t x q. fr.sound k t x (back k q);
+      sound = λ k x q. fr.sound k x (back k q);
     }
       where
         cross : (x y : Entry S) → x ∈ es → y ∈ (e ∷ []) → x.key ≺ y.key

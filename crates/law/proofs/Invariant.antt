@@ -9,14 +9,15 @@ use Rattle.filter.specs.Filter.{Filter, Lawful as LawfulFilter, run, verdict_at}
 use Rattle.graph.specs.Keys.{Key}
 use Rattle.graph.specs.Table.{Lawful, Table}
 use Rattle.law.specs.Entries.{Belongs, Entry}
-use Rattle.law.proofs.Positions.{LeadsBy, by_positions, of_positions}
+use Rattle.law.proofs.Positions.{LeadsBy, Path, path_of, by_positions, of_positions}
 use Rattle.law.specs.declared.Row.{Row}
 use Rattle.law.specs.Values.{byte_at, is_admitted, key_total, onward, leading_byte, target_at}
 use Rattle.law.specs.Next.{deeper, due, leads_nowhere, root_row}
+use Rattle.law.specs.Standing.{Ahead, Coming}
 use Rattle.bound.proofs.Words.{to_said}
 use Rattle.law.proofs.Order.{upper_down, upper_of, reached_said, none_below}
 use Rattle.law.proofs.Unique.{one_end}
-use Rattle.law.proofs.Ahead.{Ahead, onto, at_once, back_from, off, off_back, stuck, leads_on, run_on}
+use Rattle.law.proofs.Ahead.{onto, at_once, back_from, off, off_back, stuck, leads_on, run_on}
 use Rattle.law.proofs.Frame.{Frame, frame_same, frame_hand}
 
 module _ {S : Type 0} (g : Table) (f : Filter S) where
@@ -38,10 +39,6 @@ module _ {S : Type 0} (g : Table) (f : Filter S) where
     pub spelt : d ≤ suc (length area)
     pub held : d ≤ length rows
 
-  abbrev pub ToCome : ℕ → List (Row S) → Bytes → Bytes → Type 0
-  ToCome zero rows area k = ⊥
-  ToCome (suc d) rows area k = Ahead g (take d area) (row rows d).node (row rows d).position k
-
   pub stands_less : (d : ℕ) (rows : List (Row S)) (area : Bytes) → Stands (suc d) rows area → Stands d rows area
   stands_less d rows area s = record {
     reached = λ i h. s.reached i (omega arith);
@@ -51,55 +48,44 @@ module _ {S : Type 0} (g : Table) (f : Filter S) where
   }
 
   module _ (lo hi : BoundValue) (law : Lawful g) (lawful : LawfulFilter f) where
+    -- the top row is taken off: what went on from it is not ahead any more, and nothing else is lost
+    pub off_top : (d : ℕ) (rows : List (Row S)) (area : Bytes) → Stands (suc d) rows area → (k : Bytes) →
+        ((c : ℕ) (u : Bytes) → k ≡ take d area ++ (c ∷ u) → ⊥) → Coming g f (suc d) rows area k → Coming g f d rows area k
+    off_top zero rows area s k no_way a = go k refl
+      where
+        go : (v : Bytes) → k ≡ v → ⊥
+        go [] e = none_below [] (rw e at a.0)
+        go (c ∷ u) e = no_way c u e
+    off_top (suc d) rows area s k no_way a =
+        let m = s.gone d (omega arith) in
+        let l = row rows d in
+        let r = row rows (suc d) in
+        let grown : take (suc d) area ≡ take d area ++ (byte_at g l.node m.0 ∷ []) =
+        take-suc area d 0 (let z = s.spelt in omega arith) ∙ ap (λ (c : ℕ). take d area ++ (c ∷ [])) (sym m.3) in
+        subst (λ (q : ℕ). Ahead g (take d area) l.node q k) (sym m.2)
+        (off g law (take d area) r.node r.position l.node m.0 k m.1
+        (subst (λ (v : Bytes). Ahead g v r.node r.position k) grown a)
+        (subst (λ (v : Bytes). (c : ℕ) (u : Bytes) → k ≡ v ++ (c ∷ u) → ⊥) grown no_way))
+
+    pub off_top_back : (d : ℕ) (rows : List (Row S)) (area : Bytes) → Stands (suc d) rows area → (k : Bytes) → Coming g f d rows area k → Coming g f (suc d) rows area k
+    off_top_back zero rows area s k a = absurd a
+    off_top_back (suc d) rows area s k a =
+        let m = s.gone d (omega arith) in
+        let l = row rows d in
+        let r = row rows (suc d) in
+        let grown : take (suc d) area ≡ take d area ++ (byte_at g l.node m.0 ∷ []) =
+        take-suc area d 0 (let z = s.spelt in omega arith) ∙ ap (λ (c : ℕ). take d area ++ (c ∷ [])) (sym m.3) in
+        subst (λ (v : Bytes). Ahead g v r.node r.position k) (sym grown)
+        (off_back g law (take d area) r.node r.position l.node m.0 k m.1 (subst (λ (q : ℕ). Ahead g (take d area) l.node q k) m.2 a))
+
     pub remove : (d : ℕ) (rows : List (Row S)) (area : Bytes) (es : List (Entry S)) → Stands (suc d) rows area → leads_nowhere g f (row rows d) ≡ true →
-        Frame g f lo hi (ToCome (suc d) rows area) es → Frame g f lo hi (ToCome d rows area) es
-    remove zero rows area es s sp fr = frame_same g f lo hi (ToCome 1 rows area) (ToCome 0 rows area) es fr forth (λ k q. absurd q)
-      where
-        forth : (e : Entry S) → Belongs g f lo hi e → ToCome 1 rows area e.key → ⊥
-        forth e b a = go e.key refl
-          where
-            r : Reached [] (row rows 0)
-            r = s.reached 0 (omega arith)
-
-            no_way : (c : ℕ) (u : Bytes) → e.key ≡ c ∷ u → ⊥
-            no_way = stuck g law f lawful e.key e.total b.is_key b.accepted [] (row rows 0) r.leads r.state sp a
-
-            go : (k : Bytes) → e.key ≡ k → ⊥
-            go [] d = none_below [] (rw d at a.0)
-            go (c ∷ u) d = no_way c u d
-    remove (suc d) rows area es s sp fr = frame_same g f lo hi (ToCome (suc (suc d)) rows area) (ToCome (suc d) rows area) es fr forth back
-      where
-        r : Row S
-        r = row rows (suc d)
-
-        l : Row S
-        l = row rows d
-
-        w : Bytes
-        w = take d area
-
-        m : Gone l (get_or area d 0)
-        m = s.gone d (omega arith)
-
-        p : ℕ
-        p = m.0
-
-        grown : take (suc d) area ≡ w ++ (byte_at g l.node p ∷ [])
-        grown = take-suc area d 0 (let z = s.spelt in omega arith) ∙ ap (λ (c : ℕ). w ++ (c ∷ [])) (sym m.3)
-
-        forth : (e : Entry S) → Belongs g f lo hi e → Ahead g (take (suc d) area) r.node r.position e.key → Ahead g w l.node l.position e.key
-        forth e b a =
-            let at = s.reached (suc d) (omega arith) in
-            let no_way = stuck g law f lawful e.key e.total b.is_key b.accepted (take (suc d) area) r at.leads at.state sp a in
-            subst (λ (q : ℕ). Ahead g w l.node q e.key) (sym m.2)
-            (off g law w r.node r.position l.node p e.key m.1
-            (subst (λ (v : Bytes). Ahead g v r.node r.position e.key) grown a)
-            (subst (λ (v : Bytes). (c : ℕ) (u : Bytes) → e.key ≡ v ++ (c ∷ u) → ⊥) grown no_way))
-
-        back : (k : Bytes) → Ahead g w l.node l.position k → Ahead g (take (suc d) area) r.node r.position k
-        back k a =
-            subst (λ (v : Bytes). Ahead g v r.node r.position k) (sym grown)
-            (off_back g law w r.node r.position l.node p k m.1 (subst (λ (q : ℕ). Ahead g w l.node q k) m.2 a))
+        Frame g f lo hi (Coming g f (suc d) rows area) es → Frame g f lo hi (Coming g f d rows area) es
+    remove d rows area es s sp fr = frame_same g f lo hi (Coming g f (suc d) rows area) (Coming g f d rows area) es fr
+        (λ e b a.
+        let at = s.reached d (omega arith) in
+        off_top d rows area s e.key
+        (stuck g law f lawful e.key e.total b.is_key b.accepted (take d area) (row rows d) at.leads at.state sp a) a)
+        (off_top_back d rows area s)
 
     -- the writes of a look
     module _ (d : ℕ) (rows : List (Row S)) (area : Bytes) (s : Stands (suc d) rows area) (here : (row rows d).position < g.len (row rows d).node)
@@ -164,40 +150,53 @@ module _ {S : Type 0} (g : Table) (f : Filter S) where
               go (no n) = rw (same_row i (omega arith), get_or-set_other area d i c 0 n) (s.gone i (omega arith))
 
       -- what is ahead then: all behind the new key
-      ahead_is : ToCome (suc (suc d)) rows₂ area₂ ≡ Ahead g (w ++ (c ∷ [])) (target_at g r.node r.position) 0
+      ahead_is : Coming g f (suc (suc d)) rows₂ area₂ ≡ Ahead g (w ++ (c ∷ [])) (target_at g r.node r.position) 0
       ahead_is = ap₂ (λ (v : Bytes) (z : Row S). Ahead g v z.node z.position) new_key new_row
 
       behind_it : (k : Bytes) → (w ++ (c ∷ [])) ≺ k → Ahead g (w ++ (c ∷ [])) (target_at g r.node r.position) 0 k
       behind_it k t = (t, λ b u e q l m. absurd (omega arith))
 
-      module _ (es : List (Entry S)) (fr : Frame g f lo hi (ToCome (suc d) rows area) es) where
-        onto_it : (e : Entry S) → Belongs g f lo hi e → ToCome (suc d) rows area e.key → (e.key ≡ w ++ (c ∷ [])) ⊎ ((w ++ (c ∷ [])) ≺ e.key)
-        onto_it e b a = onto g law e.key e.total b.is_key w r.node r.total r.position at.leads here a
+      -- paths: the new one is ahead before, and after it those that stand behind it
+      pub new_ahead : Coming g f (suc d) rows area (w ++ (c ∷ []))
+      new_ahead = at_once g law w r.node r.position here
+
+      pub new_or_behind : (k : Bytes) → Path g k → Coming g f (suc d) rows area k → (k ≡ w ++ (c ∷ [])) ⊎ ((w ++ (c ∷ [])) ≺ k)
+      new_or_behind k x a = onto g law k x w r.node r.total r.position at.leads here a
+
+      pub behind_new : (k : Bytes) → (w ++ (c ∷ [])) ≺ k → Coming g f (suc (suc d)) rows₂ area₂ k
+      behind_new k t = subst (λ (P : Bytes → Type 0). P k) (sym ahead_is) (behind_it k t)
+
+      pub new_back : (k : Bytes) → Coming g f (suc (suc d)) rows₂ area₂ k → Coming g f (suc d) rows area k
+      new_back k a = back_from g law w r.node r.position k here (subst (λ (P : Bytes → Type 0). P k) ahead_is a).0
+
+      module _ (es : List (Entry S)) (fr : Frame g f lo hi (Coming g f (suc d) rows area) es) where
+        onto_it : (e : Entry S) → Belongs g f lo hi e → Coming g f (suc d) rows area e.key → (e.key ≡ w ++ (c ∷ [])) ⊎ ((w ++ (c ∷ [])) ≺ e.key)
+        onto_it e b a = onto g law e.key (path_of g law b.is_key) w r.node r.total r.position at.leads here a
 
         -- the new key is above the upper bound
-        pub exceed : is_admitted hi (w ++ (c ∷ [])) ≡ false → Frame g f lo hi (ToCome 0 rows₂ area₂) es
-        exceed out = frame_same g f lo hi (ToCome (suc d) rows area) (ToCome 0 rows₂ area₂) es fr forth (λ k q. absurd q)
+        pub exceed : is_admitted hi (w ++ (c ∷ [])) ≡ false → Frame g f lo hi (Coming g f 0 rows₂ area₂) es
+        exceed out = frame_same g f lo hi (Coming g f (suc d) rows area) (Coming g f 0 rows₂ area₂) es fr forth (λ k q. absurd q)
           where
             no_fit : T (is_admitted hi (w ++ (c ∷ []))) → ⊥
             no_fit t = subst (λ (b : Bool). T b) out t
 
-            forth : (e : Entry S) → Belongs g f lo hi e → ToCome (suc d) rows area e.key → ⊥
+            forth : (e : Entry S) → Belongs g f lo hi e → Coming g f (suc d) rows area e.key → ⊥
             forth e b a = go (onto_it e b a)
               where
                 go : (e.key ≡ w ++ (c ∷ [])) ⊎ ((w ++ (c ∷ [])) ≺ e.key) → ⊥
                 go (inl x) = no_fit (subst (λ (k : Bytes). T (is_admitted hi k)) x (upper_of b.within))
                 go (inr t) = no_fit (upper_down hi (w ++ (c ∷ [])) e.key t (upper_of b.within))
 
-        key_there : g.is_final (target_at g r.node r.position) ≡ true → Key g (w ++ (c ∷ [])) (key_total g (deeper g f r))
+        pub key_there : g.is_final (target_at g r.node r.position) ≡ true → Key g (w ++ (c ∷ [])) (key_total g (deeper g f r))
         key_there fin = record { node = (deeper g f r).node; sum = (deeper g f r).total; path = of_positions g law g.root g.first_total (w ++ (c ∷ [])) (deeper g f r).node (deeper g f r).total new_reached.leads; ends = fin; whole = refl }
 
         -- the new key is not due
-        pub pass : is_admitted hi (w ++ (c ∷ [])) ≡ true → due g f hi (w ++ (c ∷ [])) (deeper g f r) ≡ false → Frame g f lo hi (ToCome (suc (suc d)) rows₂ area₂) es
+        pub pass : is_admitted hi (w ++ (c ∷ [])) ≡ true → due g f hi (w ++ (c ∷ [])) (deeper g f r) ≡ false → Frame g f lo hi (Coming g f (suc (suc d)) rows₂ area₂) es
         pass fit undue = subst (λ (P : Bytes → Type 0). Frame g f lo hi P es) (sym ahead_is)
-            (frame_same g f lo hi (ToCome (suc d) rows area) (Ahead g (w ++ (c ∷ [])) (target_at g r.node r.position) 0) es fr forth
+            (frame_same g f lo hi (Coming g f (suc d) rows area) (Ahead g (w ++ (c ∷ [])) (target_at g r.node r.position) 0) es fr forth
             (λ k a. back_from g law w r.node r.position k here a.0))
           where
-            forth : (e : Entry S) → Belongs g f lo hi e → ToCome (suc d) rows area e.key → Ahead g (w ++ (c ∷ [])) (target_at g r.node r.position) 0 e.key
+            forth : (e : Entry S) → Belongs g f lo hi e → Coming g f (suc d) rows area e.key → Ahead g (w ++ (c ∷ [])) (target_at g r.node r.position) 0 e.key
             forth e b a = go (onto_it e b a)
               where
                 wanted : e.key ≡ w ++ (c ∷ []) → due g f hi (w ++ (c ∷ [])) (deeper g f r) ≡ true
@@ -215,11 +214,11 @@ module _ {S : Type 0} (g : Table) (f : Filter S) where
 
         -- the new key is due
         pub hand : due g f hi (w ++ (c ∷ [])) (deeper g f r) ≡ true →
-            Frame g f lo hi (ToCome (suc (suc d)) rows₂ area₂) (es ++ (record { key = take (suc d) area₂; total = key_total g (deeper g f r); state = (deeper g f r).state } ∷ []))
+            Frame g f lo hi (Coming g f (suc (suc d)) rows₂ area₂) (es ++ (record { key = take (suc d) area₂; total = key_total g (deeper g f r); state = (deeper g f r).state } ∷ []))
         hand is_due =
             subst (λ (P : Bytes → Type 0). Frame g f lo hi P (es ++ (record { key = take (suc d) area₂; total = key_total g (deeper g f r); state = (deeper g f r).state } ∷ []))) (sym ahead_is)
             (subst (λ (v : Bytes). Frame g f lo hi (Ahead g (w ++ (c ∷ [])) (target_at g r.node r.position) 0) (es ++ (record { key = v; total = key_total g (deeper g f r); state = (deeper g f r).state } ∷ []))) (sym new_key)
-            (frame_hand g f lo hi law (ToCome (suc d) rows area) (Ahead g (w ++ (c ∷ [])) (target_at g r.node r.position) 0) es fr e belongs
+            (frame_hand g f lo hi law (Coming g f (suc d) rows area) (Ahead g (w ++ (c ∷ [])) (target_at g r.node r.position) 0) es fr e belongs
             (at_once g law w r.node r.position here)
             (λ x b a. go x (onto_it x b a))
             (λ k a. back_from g law w r.node r.position k here a.0)
@@ -240,7 +239,7 @@ module _ {S : Type 0} (g : Table) (f : Filter S) where
               reported = new_reached.state;
               accepted = ap (verdict_at f) (sym new_reached.state) ∙ more.1;
               within = record {
-                from = reached_said lo (w ++ (c ∷ [])) (fr.sound (w ++ (c ∷ [])) (key_total g (deeper g f r)) (key_there more.0) (at_once g law w r.node r.position here));
+                from = reached_said lo (w ++ (c ∷ [])) (fr.sound (w ++ (c ∷ [])) ((deeper g f r).node, (deeper g f r).total, new_reached.leads) (at_once g law w r.node r.position here));
                 to = to_said hi (w ++ (c ∷ [])) parts.0;
               };
             }

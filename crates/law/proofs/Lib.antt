@@ -9,12 +9,15 @@ pub mod Outcomes
 pub mod Looks
 pub mod Stands
 pub mod Ahead
+pub mod Entering
 pub mod Frame
 pub mod Invariant
 pub mod Walking
 pub mod Opening
+pub mod Places
 pub mod Refuses
 pub mod Histories
 pub mod Combined
 pub mod Calls
 pub mod Finish
+pub mod Determinacy

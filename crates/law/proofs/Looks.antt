@@ -59,7 +59,7 @@ module _ {S : Type 0} (g : Table) (f : Filter S) (law : Lawful g) where
       rw (← (more_same (sym m ∙ h)), e) (omega arith)
   falls x y (refused c d e w m) h = absurd (never (sym m ∙ h))
   falls x y (beyond d e w u m) h = absurd (never (sym m ∙ h))
-  falls x y (given d e w u c m) h = absurd (never (sym m ∙ h))
+  falls x y (given d e w u c i j m) h = absurd (never (sym m ∙ h))
   falls x y (passed d e w u c m) h =
       let r = get_or x.rows d (root_row g f) in
       let rows₁ = set x.rows d (onward r) in

@@ -4,7 +4,7 @@ use native.Mathlib.Decide.{dec_lt}
 use Rattle.byte_strings.specs.Order.{Bytes}
 use Rattle.graph.specs.declared.Transition.{Transition}
 use Rattle.graph.specs.Table.{Table, Lawful}
-use Rattle.graph.specs.Keys.{Leads}
+use Rattle.graph.specs.Keys.{Leads, Key}
 use Rattle.law.specs.Values.{byte_of, target_of, byte_at, output_at, target_at}
 
 pub rising : (g : Table) → Lawful g → (n p q : ℕ) → p < q → q < g.len n → byte_at g n p < byte_at g n q
@@ -26,6 +26,10 @@ abbrev pub LeadsBy : Table → ℕ → ℕ → Bytes → ℕ → ℕ → Type 0
 LeadsBy g n t [] m u = (m ≡ n) × (u ≡ t)
 LeadsBy g n t (b ∷ w) m u = (p : ℕ) × (p < g.len n) × (byte_at g n p ≡ b) × LeadsBy g (target_at g n p) (t + output_at g n p) w m u
 
+-- k leads somewhere from the root
+abbrev pub Path : Table → Bytes → Type 0
+Path g k = (m : ℕ) × (u : ℕ) × LeadsBy g g.root g.first_total k m u
+
 pub inside : (g : Table) → Lawful g → (n p : ℕ) (x : Transition) → g.transition n p ≡ Some x → p < g.len n
 inside g law n p x e = go (dec_lt p (g.len n))
   where
@@ -36,6 +40,9 @@ inside g law n p x e = go (dec_lt p (g.len n))
 pub by_positions : (g : Table) → Lawful g → (n t : ℕ) (w : Bytes) (m u : ℕ) → Leads g n t w m u → LeadsBy g n t w m u
 by_positions g law n t [] m u l = l
 by_positions g law n t (b ∷ w) m u (p, x, e, d, l) = (p, inside g law n p x e, ap byte_of e ∙ d, rw e (by_positions g law x.target (t + x.output) w m u l))
+
+pub path_of : (g : Table) → Lawful g → {k : Bytes} {t : ℕ} → Key g k t → Path g k
+path_of g law {k} x = (x.node, x.sum, by_positions g law g.root g.first_total k x.node x.sum x.path)
 
 pub of_positions : (g : Table) → Lawful g → (n t : ℕ) (w : Bytes) (m u : ℕ) → LeadsBy g n t w m u → Leads g n t w m u
 of_positions g law n t [] m u l = l

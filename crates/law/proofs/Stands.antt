@@ -21,7 +21,7 @@ module _ {S : Type 0} (g : Table) (f : Filter S) where
   step_leaves x m (removed d e n q) h = rw q h
   step_leaves x m (refused c d e w q) h = rw q h
   step_leaves x m (beyond d e w u q) h = rw q h
-  step_leaves x m (given d e w u c q) h = rw q refl
+  step_leaves x m (given d e w u c i j q) h = rw q refl
   step_leaves x m (passed d e w u c q) h = rw q h
 
   looking_tells : (n : ℕ) (x : View S) → x.search.standing ≡ false → Told (looking g f n x)

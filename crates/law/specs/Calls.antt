@@ -3,6 +3,7 @@ use Rattle.std.specs.Prelude.{◌≡◌, ℕ, suc, ◌+◌, ◌<◌, ◌≤◌, 
 use Rattle.std.proofs.Common.{inl, inr}
 use Rattle.byte_strings.specs.Order.{Bytes}
 use Rattle.bound.specs.Value.{BoundValue, bytes_of, excluded}
+use Rattle.bound.specs.Within.{From}
 use Rattle.graph.specs.Table.{Table, Lawful}
 use Rattle.graph.specs.Keys.{Leads, Key}
 use Rattle.filter.specs.Filter.{Filter, verdict_at, Lawful as LawfulFilter}
@@ -13,6 +14,8 @@ use Rattle.law.specs.Entries.{Entry, Lists}
 use Rattle.law.specs.Values.{most, Search, View, Answer, Handed, End, Refused, Part, Standing, NoPart, with_search, without_key, without_waiting, too_short, is_admitted}
 use Rattle.law.specs.Next.{all_looks, Walks}
 use Rattle.law.specs.History.{Serves, History, entries}
+use Rattle.law.specs.Paths.{Place, at_start, HasRoom}
+use Rattle.law.specs.Standing.{StandsAt}
 use Rattle.law.specs.Theorems.{Fits, Exhausted, GivesNoEndState, GoesOnElsewhere}
 
 -- a call of `next` with the view x, which answered a and left z, after a history that left y with es handed out
@@ -21,8 +24,8 @@ pub record GoesOn {S : Type 0} (g : Table) (f : Filter S) (lower upper : BoundVa
   -- what was handed out is the front of the list
   pub whole : Lists g f lower upper (es ++ rest)
   pub counted : x.search.count ≡ length es
-  -- the answer is the head of the rest, or the end exactly where there is none, or a refusal with its reason
-  pub fits : Fits g a z rest
+  -- the answer is the head of the rest, or the end where there is none, or a refusal with its reason
+  pub fits : Fits g f lower upper y rest x a z
   -- and the search goes on from what is left
   pub after : History g f lower upper z (es ++ entries a z.key_area)
   pub counted_after : z.search.count ≡ length (es ++ entries a z.key_area)
@@ -41,14 +44,17 @@ Looked g f v a z = (n : ℕ) × (n ≤ suc (all_looks g f v.search.depth v.rows)
 -- what every call of `next` owes to every history that it goes on
 pub record NextLaw {S : Type 0} (g : Table) (f : Filter S) (x : View S) (a : Answer S) (z : View S) : Type 0 where
   pub goes_on : (lower upper : BoundValue) (y : View S) (es : List (Entry S)) → History g f lower upper y es → too_short x ≡ false → Serves y x → GoesOn g f lower upper y es x a z
-  -- areas too short: nothing but the standing key is lost
+  -- areas too short: nothing but the standing key is lost, and the search stands where it stood
   pub areas_too_short : (lower upper : BoundValue) (y : View S) (es : List (Entry S)) → History g f lower upper y es → too_short x ≡ true → x.search ≡ y.search →
-      (a ≡ Refused 13) × History g f lower upper (with_search z.search y) es
+      (a ≡ Refused 13) × History g f lower upper (with_search z.search y) es ×
+      ((p : Place) → StandsAt g f lower y p → StandsAt g f lower (with_search z.search y) p)
   -- areas as a history left them are long enough for it: 13 never refuses a call with them
   pub still_fits : (lower upper : BoundValue) (y : View S) (es : List (Entry S)) → History g f lower upper y es → too_short y ≡ false
   -- a key stands exactly where one was handed out
   pub standing : z.search.standing ≡ stands_after a
-  -- where no total waits, or one whose key is not accepted, the answer is that of so many looks at most, whatever the areas hold
+
+-- a call of `next` ends, whatever the search and the areas hold: where no total waits, or one whose key is not accepted, its answer is that of so many looks at most
+pub record NextEnds {S : Type 0} (g : Table) (f : Filter S) (x : View S) (a : Answer S) (z : View S) : Type 0 where
   pub looks_bounded : too_short x ≡ false → x.search.waiting ≡ None → Looked g f (with_search (without_key x.search) x) a z
   pub later_looks_bounded : (t : ℕ) → too_short x ≡ false → x.search.waiting ≡ Some t → is_admitted x.search.upper [] ≡ true → verdict_at f f.start ≡ false →
       Looked g f (with_search (without_waiting (without_key x.search)) x) a z
@@ -60,17 +66,30 @@ pub record KeyLaw {S : Type 0} (x : View S) (p : Part) : Type 0 where
       (front : List (Entry S)) × (e : Entry S) × (es ≡ front ++ (e ∷ [])) × (p ≡ Standing e.key)
   pub areas_too_short : too_short x ≡ true → p ≡ NoPart 13
   pub none_stands : too_short x ≡ false → x.search.standing ≡ false → p ≡ NoPart 18
+  -- and with the areas of the call the search stands where it stood
+  pub place_kept : (g : Table) (f : Filter S) (lower : BoundValue) (y : View S) → Serves y x →
+      (q : Place) → StandsAt g f lower y q → StandsAt g f lower x q
 
--- why an `open` was refused that left areas of so many rows and bytes
+-- why an `open` with areas of these numbers of rows and key bytes is refused
 pub data OpenReason (g : Table) (lower : BoundValue) (rows bytes : ℕ) : ℕ → Type 0 where
   too_few_rows : rows ≤ length (bytes_of lower) → OpenReason g lower rows bytes 14
-  too_few_bytes : bytes < length (bytes_of lower) → OpenReason g lower rows bytes 15
-  path_too_large : (w v : Bytes) (m u : ℕ) → bytes_of lower ≡ w ++ v → Leads g g.root g.first_total w m u → most < u → OpenReason g lower rows bytes 16
-  empty_key_too_large : (t : ℕ) → Key g [] t → most < t → OpenReason g lower rows bytes 16
+  too_few_bytes : length (bytes_of lower) < rows → bytes < length (bytes_of lower) → OpenReason g lower rows bytes 15
+  -- 16: the sum along a front of the bound, not the empty one
+  path_too_large : HasRoom rows bytes (bytes_of lower) → (w : Bytes) (b : ℕ) (x : Bytes) (m u : ℕ) → bytes_of lower ≡ w ++ (b ∷ x) →
+      Leads g g.root g.first_total (w ++ (b ∷ [])) m u → most < u → OpenReason g lower rows bytes 16
+  -- 16: the total of the empty key, where the bound is absent or empty and lets it in
+  empty_key_too_large : HasRoom rows bytes (bytes_of lower) → bytes_of lower ≡ [] → From lower [] →
+      (t : ℕ) → Key g [] t → most < t → OpenReason g lower rows bytes 16
 
--- what every call of `open` owes: a search that begins its history with nothing handed out, or a refusal with its reason
+-- an opened search: it begins its history with nothing handed out, and all paths that it enters are to come; there was no reason to refuse it
+pub record Opened {S : Type 0} (g : Table) (f : Filter S) (lower upper : BoundValue) (z : View S) : Type 0 where
+  pub history : History g f lower upper z []
+  pub stands : StandsAt g f lower z at_start
+  pub no_reason : (c : ℕ) → OpenReason g lower (length z.rows) (length z.key_area) c → ⊥
+
+-- what every call of `open` owes
 abbrev pub OpenLaw : {S : Type 0} → Table → Filter S → BoundValue → BoundValue → Search ⊎ ℕ → List (Row S) → Bytes → Type 0
-OpenLaw g f lower upper (inl s) rows area = History g f lower upper (record { search = s; rows = rows; key_area = area }) []
+OpenLaw g f lower upper (inl s) rows area = Opened g f lower upper (record { search = s; rows = rows; key_area = area })
 OpenLaw g f lower upper (inr n) rows area = OpenReason g lower (length rows) (length area) n
 
 -- what `close` owes of the search s over filters with states of type S: the number of entries handed out, and of an exhausted search that of the whole list
@@ -96,3 +115,14 @@ pub record ComplementLaw (A : Type 0) (matching others unfiltered : Search) (agr
       (es fs : List (Entry A)) → Exhausted g f lower upper matching es → Exhausted g (complement_table f) lower upper others fs →
       (us : List (Entry (Unit {0}))) → Exhausted g always_match_table lower upper unfiltered us →
       (agree ≡ true) × (matching.count + others.count ≡ unfiltered.count)
+
+-- one answer only: of two answers to one call after one history, which both keep the law, neither differs
+abbrev pub AnswerDetermined : Type 0 → Type 0
+AnswerDetermined S = (g : Table) (f : Filter S) (lower upper : BoundValue) → Lawful g → LawfulFilter f →
+    (y : View S) (es : List (Entry S)) → History g f lower upper y es → (x : View S) (a b : Answer S) (z u : View S) →
+    GoesOn g f lower upper y es x a z → GoesOn g f lower upper y es x b u → a ≡ b
+
+-- and an opening is refused by one number only
+abbrev pub OpenReasonDetermined : Type 0
+OpenReasonDetermined = (g : Table) (lower : BoundValue) (rows bytes c d : ℕ) →
+    OpenReason g lower rows bytes c → OpenReason g lower rows bytes d → c ≡ d

@@ -3,5 +3,7 @@ pub mod Values
 pub mod Next
 pub mod Open
 pub mod History
+pub mod Paths
+pub mod Standing
 pub mod Theorems
 pub mod Calls

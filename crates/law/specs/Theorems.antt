@@ -1,5 +1,5 @@
 -- The theorems about whole searches, for all tables and all histories. Each is named by the contract of a function. Assumes nothing.
-use Rattle.std.specs.Prelude.{◌≡◌, ℕ, suc, ◌+◌, ◌<◌, ◌≤◌, true, false, List, [], ◌∷◌, ◌++◌, length, take, None}
+use Rattle.std.specs.Prelude.{◌≡◌, ℕ, suc, ◌+◌, ◌≤◌, true, false, List, [], ◌∷◌, ◌++◌, length, take, None}
 use Rattle.byte_strings.specs.Order.{Bytes}
 use Rattle.bound.specs.Value.{BoundValue, excluded}
 use Rattle.graph.specs.Table.{Table, Lawful}
@@ -10,32 +10,33 @@ use Rattle.law.specs.Entries.{Entry, Lists}
 use Rattle.law.specs.Values.{most, most_keys, Search, View, Answer, Handed, End, Refused, Standing, NoPart, too_short}
 use Rattle.law.specs.Next.{all_looks, Walks, walk, next_of, key_of}
 use Rattle.law.specs.History.{Serves, History}
+use Rattle.law.specs.Paths.{Place, Follows, after, before, at_end, HandsOut, Reason, AllFit}
+use Rattle.law.specs.Standing.{StandsAt}
 
--- why a `next` that left y was refused while rest was still owed
-pub data Reason {S : Type 0} (g : Table) (y : View S) (rest : List (Entry S)) : ℕ → Type 0 where
-  -- 14: a path of as many bytes as rows are in use goes on, and there is no row for it
-  stack_full : (w : Bytes) (m u : ℕ) → Leads g g.root g.first_total w m u → length w ≡ y.search.depth → length y.rows ≤ length w → Reason g y rest 14
-  -- 15: nor a byte
-  key_area_full : (w : Bytes) (m u : ℕ) → Leads g g.root g.first_total w m u → length w ≡ y.search.depth → length y.key_area < length w → Reason g y rest 15
-  -- 16: the sum along a path of as many bytes as rows are in use is too large
-  path_too_large : (w : Bytes) (m u : ℕ) → Leads g g.root g.first_total w m u → length w ≡ y.search.depth → most < u → Reason g y rest 16
-  -- 16: the total of the next entry is too large
-  total_too_large : (e : Entry S) (later : List (Entry S)) → rest ≡ e ∷ later → most < e.total → Reason g y rest 16
-  -- 17: there is a next entry, and the count is full
-  count_full : (e : Entry S) (later : List (Entry S)) → rest ≡ e ∷ later → y.search.count ≡ most_keys → Reason g y rest 17
+-- what an answer of a call says, with the paths of coming to come and rest owed, and where the search z that it leaves stands
+module _ {S : Type 0} (g : Table) (f : Filter S) (lower upper : BoundValue)
+    (coming : Bytes → Type 0) (rows bytes count : ℕ) (rest : List (Entry S)) where
+  abbrev pub Explains : Answer S → View S → Type 0
+  Explains (Handed n t s) z =
+      let key = take n z.key_area in
+      (n ≤ length z.key_area) × HandsOut g f lower upper coming rows bytes count rest key t s × StandsAt g f lower z (after key)
+  Explains End z = (rest ≡ []) × AllFit g f lower upper coming rows bytes × StandsAt g f lower z at_end
+  Explains (Refused c) z =
+      (v : Bytes) × Reason g f lower upper coming rows bytes count rest v c × StandsAt g f lower z (before v)
 
--- what an answer of `next`, which left y, has to do with the rest that was still owed
-abbrev pub Fits : {S : Type 0} → Table → Answer S → View S → List (Entry S) → Type 0
-Fits {S} g (Handed n t s) y rest = (n ≤ length y.key_area) × (later : List (Entry S)) × (rest ≡ record { key = take n y.key_area; total = t; state = s } ∷ later)
-Fits g End y rest = rest ≡ []
-Fits g (Refused c) y rest = Reason g y rest c
+-- the answer a of a call with x, after a history that left y with rest still owed, fits: at the place where y stands it explains what it leaves, z
+abbrev pub Fits : {S : Type 0} → Table → Filter S → BoundValue → BoundValue → View S → List (Entry S) → View S → Answer S → View S → Type 0
+Fits g f lower upper y rest x a z = (p : Place) → StandsAt g f lower y p →
+    Explains g f lower upper (Follows p) (length x.rows) (length x.key_area) x.search.count rest a z
 
 -- a search that has handed out es
 pub record Owes {S : Type 0} (g : Table) (f : Filter S) (lower upper : BoundValue) (y : View S) (es : List (Entry S)) : Type 0 where
   pub rest : List (Entry S)
   pub whole : Lists g f lower upper (es ++ rest)
   pub counted : y.search.count ≡ length es
-  pub following : (x : View S) → too_short x ≡ false → Serves y x → Fits g (next_of g f x).answer (next_of g f x).left rest
+  pub place : Place
+  pub stands : StandsAt g f lower y place
+  pub following : (x : View S) → too_short x ≡ false → Serves y x → Fits g f lower upper y rest x (next_of g f x).answer (next_of g f x).left
   pub narrow : (x : View S) → too_short x ≡ true → ((next_of g f x).answer ≡ Refused 13) × (key_of x ≡ NoPart 13)
   pub stood : y.search.standing ≡ true → (front : List (Entry S)) × (e : Entry S) × (es ≡ front ++ (e ∷ [])) ×
       ((x : View S) → too_short x ≡ false → Serves y x → key_of x ≡ Standing e.key)
@@ -120,9 +121,9 @@ pub record AreasSuffice {S : Type 0} (g : Table) (y : View S) : Type 0 where
   pub rows : g.height g.root + 1 ≤ length y.rows
   pub bytes : g.height g.root ≤ length y.key_area
 
--- with such totals and areas, and fewer entries than the count can hold, every history can be gone on to the end
+-- with such totals and areas, and no more entries than the count can hold, every history can be gone on to the end
 abbrev pub CanBeExhausted : Type 0 → Type 0
 CanBeExhausted S = (g : Table) (f : Filter S) (lower upper : BoundValue) → Lawful g → LawfulFilter f → TotalsFit g →
-    ((fs : List (Entry S)) → Lists g f lower upper fs → length fs < most_keys) →
+    ((fs : List (Entry S)) → Lists g f lower upper fs → length fs ≤ most_keys) →
     (y : View S) (es : List (Entry S)) → History g f lower upper y es → AreasSuffice g y →
     (s : Search) × (fs : List (Entry S)) × Exhausted g f lower upper s fs

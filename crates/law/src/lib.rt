@@ -2,6 +2,7 @@
 //! for all graphs, all filters whose states are of the named types, and all histories.
 #![tactic(auto)]
 
+ghost use Rattle.law.specs.Calls.{AnswerDetermined, OpenReasonDetermined};
 ghost use Rattle.law.specs.Theorems.{HandedOutIsFront, Determined, Listable, AlwaysBounded, ExhaustedListsAll};
 ghost use Rattle.law.specs.Theorems.{UnionAndIntersectionCount, ComplementCount, ResumedListsTheRest, CanBeExhausted};
 
@@ -22,6 +23,16 @@ pub fn handed_out_is_front_of_list<S>()
 /// Theorem: graph, filter and bounds have one list only.
 pub fn list_is_determined<S>()
     ensures { Determined S }
+{}
+
+/// Theorem: the law of `next` leaves one answer to a call after a history.
+pub fn answer_is_determined<S>()
+    ensures { AnswerDetermined S }
+{}
+
+/// Theorem: the reasons for which an opening is refused leave one number.
+pub fn refusal_of_an_opening_is_determined()
+    ensures { OpenReasonDetermined }
 {}
 
 /// Theorem: every lawful graph has a list, whatever the filter and the bounds.

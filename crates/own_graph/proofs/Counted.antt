@@ -1,50 +1,305 @@
 -- How a caller that counts goes on from call to call. Assumes nothing.
-use Rattle.std.proofs.Common.{◌≡◌, ℕ, suc, ◌+◌, ◌<◌, true, false, List, ◌++◌, length, is_some, Some, None, Option, refl, ap, ◌∙◌, subst, append-nil, arith, length-append}
+use Rattle.std.proofs.Common.{◌≡◌, ◌≢◌, ℕ, suc, ◌+◌, ◌<◌, ◌≤◌, true, false, ◌⊎◌, List, [], ◌∷◌, ◌++◌, length, take, is_some, Some, None, Option, sym, refl, ap, ◌∙◌, subst, inl, inr, append-nil, arith, length-append, Less, Equal, Greater}
+use Rattle.byte_strings.specs.Order.{Bytes, ◌≺◌}
+use Rattle.byte_strings.proofs.Orders.{irreflexive, transitive}
 use Rattle.bound.specs.Value.{BoundValue}
+use Rattle.bound.specs.Within.{To}
 use Rattle.graph.specs.Table.{Table, Lawful}
 use Rattle.filter.specs.Filter.{Filter, Lawful as LawfulFilter}
-use Rattle.law.specs.Entries.{Entry}
-use Rattle.law.specs.Values.{View, Answer, Refused}
+use Rattle.law.specs.Entries.{Entry, Lists, ◌∈◌}
+use Rattle.law.specs.Values.{Search, View, Answer, Handed, End, Refused, Result, most, most_keys}
+use Rattle.law.specs.declared.Row.{Row}
+use Rattle.law.specs.Next.{next_of}
+use Rattle.law.specs.Open.{open_of}
 use Rattle.law.specs.History.{Serves, History, entries}
-use Rattle.law.specs.Theorems.{Fits}
-use Rattle.law.specs.Calls.{NextLaw, GoesOn, CloseLaw}
-use Rattle.law.proofs.Unique.{determined}
+use Rattle.law.specs.Paths.{Place, at_start, behind, Follows, StandsAt, ToCome, PathOf, PathFits, ComesTo, Reason, stack_full, key_area_full, path_too_large, total_too_large, count_full, Fits, Ends}
+use Rattle.law.specs.Calls.{NextLaw, GoesOn, CloseLaw, Opened, OpenReason}
+use Rattle.law.proofs.Unique.{determined, one_total}
+use Rattle.law.proofs.Members.{in_right, in_either, rises_across}
+use Rattle.law.proofs.Entering.{one_entered}
+use Rattle.law.proofs.Determinacy.{three_ways}
+use native.Mathlib.Decide.{ℕ_discrete}
 use Rattle.law.proofs.Kept.{listable}
 use Rattle.search.specs.Answers.{item_of}
-use Rattle.own_graph.specs.Counting.{CountsList, CannotCount, stopped}
+use Rattle.own_graph.specs.Counting.{Runs, ends, refuses, hands, Counts, unopened, opened, told, CountsList, CannotCount, stopped}
 
-module _ {S : Type 0} (g : Table) (f : Filter S) (lo hi : BoundValue) (x : View S) (a : Answer S) (z : View S) (law : NextLaw g f x a z) (es : List (Entry S)) (h : History g f lo hi x es) where
-  itself : Serves x x
-  itself = record { same = refl; rows_kept = refl; bytes_kept = refl }
+-- the same reason, where the same path is come to
+reason_with : {S : Type 0} (g : Table) (f : Filter S) (lo hi : BoundValue) (coming others : Bytes → Type 0) (rows bytes count : ℕ) (rest : List (Entry S)) (v : Bytes) (c : ℕ) →
+    ((u : ℕ) → ComesTo g f lo hi coming rows bytes count rest v u → ComesTo g f lo hi others rows bytes count rest v u) →
+    Reason g f lo hi coming rows bytes count rest v c → Reason g f lo hi others rows bytes count rest v c
+reason_with g f lo hi coming others rows bytes count rest v c on (stack_full u m h) = stack_full u (on u m) h
+reason_with g f lo hi coming others rows bytes count rest v c on (key_area_full u m h i) = key_area_full u (on u m) h i
+reason_with g f lo hi coming others rows bytes count rest v c on (path_too_large u m h i j) = path_too_large u (on u m) h i j
+reason_with g f lo hi coming others rows bytes count rest v c on (total_too_large u m n e later p d h) = total_too_large u (on u m) n e later p d h
+reason_with g f lo hi coming others rows bytes count rest v c on (count_full u m n e later p d h i) = count_full u (on u m) n e later p d h i
 
-  goes_on : GoesOn g f lo hi x es x a z
-  goes_on = law.goes_on lo hi x es h (law.still_fits lo hi x es h) itself
+one_more : (n m : ℕ) → n ≤ most_keys → (n ≡ most_keys → ⊥) → m ≡ n + 1 → m ≤ most_keys
+one_more n m h e d = go (ℕ_discrete n most_keys)
+  where
+    go : Dec (n ≡ most_keys) → m ≤ most_keys
+    go (yes p) = absurd (e p)
+    go (no p) = omega arith
 
-  -- a key handed out: the history goes on, and the count, which was below the length of the list, rises
-  pub handed : (l : Lawful g) (item : Option (ℕ × ℕ × S)) → is_some item ≡ true → a ≡ item_of item →
-      ((fs : List (Entry S)) × History g f lo hi z fs) × (x.search.count < z.search.count) × (x.search.count < length (listable g f lo hi l).0)
-  handed l None p q = cc
-  handed l (Some (n, t, s)) p q =
-      let o = goes_on in
-      let c = o.counted in
-      let d : z.search.count ≡ length es + 1 = o.counted_after ∙ ap (λ (b : Answer S). length (es ++ entries b z.key_area)) q ∙ length-append es _ in
-      let (inside, later, r) = subst (λ (b : Answer S). Fits g b z o.rest) q o.fits in
-      let k : length (listable g f lo hi l).0 ≡ length es + length o.rest =
-      ap length (determined g f lo hi l (listable g f lo hi l).0 (es ++ o.rest) (listable g f lo hi l).1 o.whole) ∙ length-append es o.rest in
-      let j : length o.rest ≡ suc (length later) = ap length r in
-      ((es ++ entries a z.key_area, o.after), omega arith, omega arith)
+-- how far a count has come with so many rows and key bytes
+pub record Counting {S : Type 0} (g : Table) (f : Filter S) (lo hi : BoundValue) (rows bytes : ℕ) (x : View S) : Type 0 where
+  pub opens : (c : ℕ) → OpenReason g lo rows bytes c → ⊥
+  pub handed : List (Entry S)
+  pub history : History g f lo hi x handed
+  pub place : Place
+  pub stands : StandsAt g f lo x place
+  pub passed : (w : Bytes) (s : ℕ) → PathOf g f lo w s → Follows place w ⊎ (PathFits rows bytes w s × To hi w)
+  pub below : (e : Entry S) → e ∈ handed → (w : Bytes) (s : ℕ) → PathOf g f lo w s → Follows place w → e.key ≺ w
+  pub totals : (e : Entry S) → e ∈ handed → e.total ≤ most
+  pub few : length handed ≤ most_keys
+  pub rows_same : length x.rows ≡ rows
+  pub bytes_same : length x.key_area ≡ bytes
 
-  -- the end: what was handed out is the whole list, and its number that which `close` answers
-  pub counted : Lawful g → LawfulFilter f → (item : Option (ℕ × ℕ × S)) → is_some item ≡ false → a ≡ item_of item → (n : ℕ) → CloseLaw S z.search n → CountsList g f lo hi n
-  counted l m (Some i) p q n closed = cc
-  counted l m None p q n closed =
-      let o = goes_on in
-      let c = closed.complete g f l m lo hi es (o.exhausted q) in
-      (es, c.0, c.1)
+module _ {S : Type 0} (g : Table) (f : Filter S) (lo hi : BoundValue) (rows bytes : ℕ) (l : Lawful g) where
+  pub begun : (x : View S) → length x.rows ≡ rows → length x.key_area ≡ bytes → Opened g f lo hi x → Counting g f lo hi rows bytes x
+  begun x r b o = record {
+    opens = λ c. subst (λ (i : ℕ). OpenReason g lo i bytes c → ⊥) r (subst (λ (i : ℕ). OpenReason g lo (length x.rows) i c → ⊥) b (o.no_reason c));
+    handed = [];
+    history = o.history;
+    place = at_start;
+    stands = o.stands;
+    passed = λ w s en. inl tt;
+    below = λ e m. absurd m;
+    totals = λ e m. absurd m;
+    few = omega arith;
+    rows_same = r;
+    bytes_same = b;
+  }
 
-  -- a refusal: what was handed out is the front of the list, and the rest is owed
-  pub stops : (n rows bytes : ℕ) → a ≡ Refused n → length z.rows ≡ rows → length z.key_area ≡ bytes → CannotCount g f lo hi rows bytes n
-  stops n rows bytes q r b =
-      let o = goes_on in
-      let e : es ++ entries a z.key_area ≡ es = ap (λ (d : Answer S). es ++ entries d z.key_area) q ∙ append-nil es in
-      stopped z es o.rest (subst (λ (fs : List (Entry S)). History g f lo hi z fs) e o.after) o.whole r b (subst (λ (d : Answer S). Fits g d z o.rest) q o.fits)
+  module _ (x : View S) (i : Counting g f lo hi rows bytes x) (a : Answer S) (z : View S) (law : NextLaw g f x a z) where
+    itself : Serves x x
+    itself = record { same = refl; rows_kept = refl; bytes_kept = refl }
+
+    on : GoesOn g f lo hi x i.handed x a z
+    on = law.goes_on lo hi x i.handed i.history (law.still_fits lo hi x i.handed i.history) itself
+
+    -- what is passed before a path to which the call comes
+    before_it : (count : ℕ) (rest : List (Entry S)) (v : Bytes) (u : ℕ) → ComesTo g f lo hi (ToCome g f x) (length x.rows) (length x.key_area) count rest v u →
+        (w : Bytes) (s : ℕ) → PathOf g f lo w s → w ≺ v → PathFits rows bytes w s × To hi w
+    before_it count rest v u m w s en t = go (i.passed w s en)
+      where
+        resized : PathFits (length x.rows) (length x.key_area) w s × To hi w → PathFits rows bytes w s × To hi w
+        resized (n, p) =
+            let j = i.rows_same in
+            let k = i.bytes_same in
+            let a = n.row_free in
+            let b = n.byte_free in
+            (record { row_free = omega arith; byte_free = omega arith; sum_fits = n.sum_fits }, p)
+
+        go : Follows i.place w ⊎ (PathFits rows bytes w s × To hi w) → PathFits rows bytes w s × To hi w
+        go (inr n) = n
+        go (inl q) = resized (m.before w s en ((i.stands w s en).1 q) t)
+
+    handed_below : (count : ℕ) (rest : List (Entry S)) (v : Bytes) (u : ℕ) → ComesTo g f lo hi (ToCome g f x) (length x.rows) (length x.key_area) count rest v u →
+        (e : Entry S) → e ∈ i.handed → e.key ≺ v
+    handed_below count rest v u m e n = i.below e n v u m.path ((i.stands v u m.path).0 m.to_come)
+
+    module _ (n t : ℕ) (s : S) (q : a ≡ Handed n t s) where
+      fits : Fits g f lo hi x on.rest (Handed n t s) z
+      fits = subst (λ (b : Answer S). Fits g f lo hi x on.rest b z) q on.fits
+
+      abbrev key : Bytes
+      key = take n z.key_area
+
+      abbrev entry : Entry S
+      entry = record { key = key; total = t; state = s }
+
+      all_handed : i.handed ++ entries a z.key_area ≡ i.handed ++ (entry ∷ [])
+      all_handed = ap (λ (b : Answer S). i.handed ++ entries b z.key_area) q
+
+      pub goes : length z.rows ≡ rows → length z.key_area ≡ bytes → Counting g f lo hi rows bytes z
+      goes r b = record {
+        opens = i.opens;
+        handed = i.handed ++ (entry ∷ []);
+        history = subst (λ (es : List (Entry S)). History g f lo hi z es) all_handed on.after;
+        place = behind key;
+        stands = fits.2;
+        passed = λ w u en. now_passed w u en (three_ways w key);
+        below = λ e m w u en p. now_below e w u en p (in_either e i.handed (entry ∷ []) m);
+        totals = λ e m. now_fits e (in_either e i.handed (entry ∷ []) m);
+        few =
+            let h = length-append i.handed (entry ∷ []) in
+            let j = i.few in
+            let k = on.counted in
+            one_more (length i.handed) _ j (λ p. fits.1.not_full (k ∙ p)) h;
+        rows_same = r;
+        bytes_same = b;
+      }
+        where
+          comes : ComesTo g f lo hi (ToCome g f x) (length x.rows) (length x.key_area) x.search.count on.rest key fits.1.sum
+          comes = fits.1.comes
+
+          now_passed : (w : Bytes) (u : ℕ) → PathOf g f lo w u → (w ≺ key) ⊎ ((w ≡ key) ⊎ (key ≺ w)) → (key ≺ w) ⊎ (PathFits rows bytes w u × To hi w)
+          now_passed w u en (inl p) = inr (before_it x.search.count on.rest key fits.1.sum comes w u en p)
+          now_passed w u en (inr (inr p)) = inl p
+          now_passed w u en (inr (inl p)) = inr (here, subst (To hi) (sym p) inside)
+            where
+              here : PathFits rows bytes w u
+              here =
+                  let j = i.rows_same in
+                  let k = i.bytes_same in
+                  let room = fits.1.enterable in
+                  let c = room.row_free in
+                  let d = room.byte_free in
+                  let o = room.sum_fits in
+                  let h = ap length p in
+                  let m = one_entered g f lo l w u en key fits.1.sum comes.path p in
+                  record { row_free = omega arith; byte_free = omega arith; sum_fits = omega arith }
+
+              inside : To hi key
+              inside = ((on.whole.exact entry).0 (in_right entry i.handed on.rest (subst (λ (l : List (Entry S)). entry ∈ l) (sym fits.1.head) (inl refl)))).within.to
+
+          now_below : (e : Entry S) (w : Bytes) (u : ℕ) → PathOf g f lo w u → key ≺ w → (e ∈ i.handed) ⊎ (e ∈ (entry ∷ [])) → e.key ≺ w
+          now_below e w u en p (inl m) = transitive e.key key w (handed_below x.search.count on.rest key fits.1.sum comes e m) p
+          now_below e w u en p (inr (inl d)) = subst (λ (k : Entry S). k.key ≺ w) (sym d) p
+          now_below e w u en p (inr (inr m)) = absurd m
+
+          now_fits : (e : Entry S) → (e ∈ i.handed) ⊎ (e ∈ (entry ∷ [])) → e.total ≤ most
+          now_fits e (inl m) = i.totals e m
+          now_fits e (inr (inl d)) = subst (λ (k : Entry S). k.total ≤ most) (sym d) fits.1.total_fits
+          now_fits e (inr (inr m)) = absurd m
+
+      -- the count, which was below the length of the list, rises
+      pub counts : (x.search.count < z.search.count) × (x.search.count < length (listable g f lo hi l).0)
+      counts =
+          let c = on.counted in
+          let d : z.search.count ≡ length i.handed + 1 = on.counted_after ∙ ap length all_handed ∙ length-append i.handed (entry ∷ []) in
+          let k : length (listable g f lo hi l).0 ≡ length i.handed + length on.rest =
+          ap length (determined g f lo hi l (listable g f lo hi l).0 (i.handed ++ on.rest) (listable g f lo hi l).1 on.whole) ∙ length-append i.handed on.rest in
+          let j : length on.rest ≡ suc (length fits.1.later) = ap length fits.1.head in
+          (omega arith, omega arith)
+
+    -- the end: what was handed out is the whole list
+    pub counted : LawfulFilter f → a ≡ End → (n : ℕ) → CloseLaw S z.search n → CountsList g f lo hi rows bytes n
+    counted m q n closed =
+        let (fits, stands) = subst (λ (b : Answer S). Fits g f lo hi x on.rest b z) q on.fits in
+        let c = closed.complete g f l m lo hi i.handed (on.exhausted q) in
+        record {
+          opens = i.opens;
+          list = i.handed;
+          whole = c.0;
+          number = c.1;
+          passes = record { none_owed = refl; enterable = λ v u en st h. go fits v u en h (i.passed v u en) };
+          totals_fit = i.totals;
+          few = i.few;
+        }
+      where
+        go : Ends g f lo hi (ToCome g f x) (length x.rows) (length x.key_area) x.search.count on.rest → (v : Bytes) (u : ℕ) → PathOf g f lo v u →
+            ((w : Bytes) (s : ℕ) → PathOf g f lo w s → Unit {0} → w ≺ v → To hi w) → Follows i.place v ⊎ (PathFits rows bytes v u × To hi v) → PathFits rows bytes v u
+        go e v u en h (inr p) = p.0
+        go e v u en h (inl p) =
+            let n = e.enterable v u en ((i.stands v u en).1 p) (λ w s o c t. h w s o tt t) in
+            let j = i.rows_same in
+            let k = i.bytes_same in
+            let r = n.row_free in
+            let b = n.byte_free in
+            record { row_free = omega arith; byte_free = omega arith; sum_fits = n.sum_fits }
+
+    -- a refusal: the path that stops the search
+    pub stops : (c : ℕ) → a ≡ Refused c → CannotCount g f lo hi rows bytes c
+    stops c q =
+        let (v, why, left, stands) = subst (λ (b : Answer S). Fits g f lo hi x on.rest b z) q on.fits in
+        stopped i.opens i.handed on.rest v on.whole (λ e m. (under v c why e m, i.totals e m)) i.few
+        (reason_with g f lo hi (ToCome g f x) (Follows at_start) rows bytes (length i.handed) on.rest v c (λ u m. from_start v u m) (resized v c why))
+      where
+        resized : (v : Bytes) (c : ℕ) → Reason g f lo hi (ToCome g f x) (length x.rows) (length x.key_area) x.search.count on.rest v c →
+            Reason g f lo hi (ToCome g f x) rows bytes (length i.handed) on.rest v c
+        resized v c why =
+            subst (λ (j : ℕ). Reason g f lo hi (ToCome g f x) rows bytes j on.rest v c) on.counted
+            (subst (λ (j : ℕ). Reason g f lo hi (ToCome g f x) rows j x.search.count on.rest v c) i.bytes_same
+            (subst (λ (j : ℕ). Reason g f lo hi (ToCome g f x) j (length x.key_area) x.search.count on.rest v c) i.rows_same why))
+
+        from_start : (v : Bytes) (u : ℕ) → ComesTo g f lo hi (ToCome g f x) rows bytes (length i.handed) on.rest v u → ComesTo g f lo hi (Follows at_start) rows bytes (length i.handed) on.rest v u
+        from_start v u m = record {
+          path = m.path;
+          to_come = tt;
+          before = λ w s en st t. earlier w s en t (i.passed w s en);
+          owed = m.owed;
+        }
+          where
+            earlier : (w : Bytes) (s : ℕ) → PathOf g f lo w s → w ≺ v → Follows i.place w ⊎ (PathFits rows bytes w s × To hi w) → PathFits rows bytes w s × To hi w
+            earlier w s en t (inr p) = p
+            earlier w s en t (inl p) = m.before w s en ((i.stands w s en).1 p) t
+
+        under : (v : Bytes) (c : ℕ) → Reason g f lo hi (ToCome g f x) (length x.rows) (length x.key_area) x.search.count on.rest v c → (e : Entry S) → e ∈ i.handed → e.key ≺ v
+        under v c (stack_full u m h) e n = handed_below x.search.count on.rest v u m e n
+        under v c (key_area_full u m h j) e n = handed_below x.search.count on.rest v u m e n
+        under v c (path_too_large u m h j k) e n = handed_below x.search.count on.rest v u m e n
+        under v c (total_too_large u m r y later p d h) e n = handed_below x.search.count on.rest v u m e n
+        under v c (count_full u m r y later p d h j) e n = handed_below x.search.count on.rest v u m e n
+
+    -- by the item that a call answers
+    pub handed_on : (item : Option (ℕ × ℕ × S)) → is_some item ≡ true → a ≡ item_of item → length z.rows ≡ rows → length z.key_area ≡ bytes →
+        Counting g f lo hi rows bytes z × (x.search.count < z.search.count) × (x.search.count < length (listable g f lo hi l).0)
+    handed_on None p q r b = cc
+    handed_on (Some (n, t, s)) p q r b = let c = counts n t s q in (goes n t s q r b, c.0, c.1)
+
+    pub counted_all : LawfulFilter f → (item : Option (ℕ × ℕ × S)) → is_some item ≡ false → a ≡ item_of item → (n : ℕ) → CloseLaw S z.search n → CountsList g f lo hi rows bytes n
+    counted_all m (Some i) p q n closed = cc
+    counted_all m None p q n closed = counted m q n closed
+
+-- the run of the calls
+module _ {S : Type 0} (g : Table) (f : Filter S) (x : View S) (a : Answer S) (z : View S) (p : a ≡ (next_of g f x).answer) (q : z ≡ (next_of g f x).left) where
+  as_one : (b : Answer S) → a ≡ b → next_of g f x ≡ record { answer = b; left = z }
+  as_one b e = λ i. record { answer = (sym p ∙ e) i; left = sym q i }
+
+  pub runs_on : (item : Option (ℕ × ℕ × S)) → is_some item ≡ true → a ≡ item_of item → (b : Answer S) (y : View S) → Runs g f z b y → Runs g f x b y
+  runs_on None e d b y r = cc
+  runs_on (Some (n, t, s)) e d b y r = hands (as_one (Handed n t s) d) r
+
+  pub run_ends : (item : Option (ℕ × ℕ × S)) → is_some item ≡ false → a ≡ item_of item → Runs g f x End z
+  run_ends None e d = ends (as_one End d)
+  run_ends (Some i) e d = cc
+
+  pub run_refuses : (c : ℕ) → a ≡ Refused c → Runs g f x (Refused c) z
+  run_refuses c d = refuses (as_one (Refused c) d)
+
+-- what has been counted with these areas; and a run from here is one of the whole
+pub record Going {S : Type 0} (g : Table) (f : Filter S) (lo hi : BoundValue) (rows : List (Row S)) (area : Bytes) (x : View S) : Type 0 where
+  pub counting : Counting g f lo hi (length rows) (length area) x
+  pub whole : (a : Answer S) (z : View S) → Runs g f x a z → Counts g f lo hi rows area (told a z) z.rows z.key_area
+
+module _ {S : Type 0} (g : Table) (f : Filter S) (lo hi : BoundValue) (rows : List (Row S)) (area : Bytes) where
+  pub starts : (l : Lawful g) (rows₁ : List (Row S)) (area₁ : Bytes) → rows₁ ≡ (open_of g f lo hi rows area).rows → area₁ ≡ (open_of g f lo hi rows area).key_area →
+      (s : Search) → inl s ≡ (open_of g f lo hi rows area).outcome → length rows₁ ≡ length rows → length area₁ ≡ length area →
+      Opened g f lo hi (record { search = s; rows = rows₁; key_area = area₁ }) → Going g f lo hi rows area (record { search = s; rows = rows₁; key_area = area₁ })
+  starts l rows₁ area₁ p q s e i j o = record {
+    counting = begun g f lo hi (length rows) (length area) l (record { search = s; rows = rows₁; key_area = area₁ }) i j o;
+    whole = λ a z r. opened s (sym e) a z
+        (subst (λ (i : List (Row S)). Runs g f (record { search = s; rows = i; key_area = (open_of g f lo hi rows area).key_area }) a z) p
+        (subst (λ (i : Bytes). Runs g f (record { search = s; rows = rows₁; key_area = i }) a z) q r)) refl refl refl;
+  }
+
+  pub not_started : (rows₁ : List (Row S)) (area₁ : Bytes) → rows₁ ≡ (open_of g f lo hi rows area).rows → area₁ ≡ (open_of g f lo hi rows area).key_area →
+      (c : ℕ) → inr c ≡ (open_of g f lo hi rows area).outcome → Counts g f lo hi rows area (inr c) rows₁ area₁
+  not_started rows₁ area₁ p q c e = unopened c (sym e) refl p q
+
+  module _ (x : View S) (i : Going g f lo hi rows area x) (a : Answer S) (z : View S) (law : NextLaw g f x a z) where
+    pub went_on : Lawful g → (item : Option (ℕ × ℕ × S)) → is_some item ≡ true → a ≡ item_of item → a ≡ (next_of g f x).answer → z ≡ (next_of g f x).left →
+        length z.rows ≡ length rows → length z.key_area ≡ length area → Going g f lo hi rows area z
+    went_on l item e d p q r b = record {
+      counting = (handed_on g f lo hi (length rows) (length area) l x i.counting a z law item e d r b).0;
+      whole = λ c y run. i.whole c y (runs_on g f x a z p q item e d c y run);
+    }
+
+    pub rises : (l : Lawful g) (item : Option (ℕ × ℕ × S)) → is_some item ≡ true → a ≡ item_of item → length z.rows ≡ length rows → length z.key_area ≡ length area →
+        (x.search.count < z.search.count) × (x.search.count < length (listable g f lo hi l).0)
+    rises l item e d r b = let o = handed_on g f lo hi (length rows) (length area) l x i.counting a z law item e d r b in (o.1, o.2)
+
+    pub lists : Lawful g → LawfulFilter f → (item : Option (ℕ × ℕ × S)) → is_some item ≡ false → a ≡ item_of item → (n : ℕ) → CloseLaw S z.search n →
+        CountsList g f lo hi (length rows) (length area) n
+    lists l m item e d n closed = counted_all g f lo hi (length rows) (length area) l x i.counting a z law m item e d n closed
+
+    pub ran : (item : Option (ℕ × ℕ × S)) → is_some item ≡ false → a ≡ item_of item → a ≡ (next_of g f x).answer → z ≡ (next_of g f x).left → (n : ℕ) → n ≡ z.search.count →
+        Counts g f lo hi rows area (inl n) z.rows z.key_area
+    ran item e d p q n k = subst (λ (j : ℕ). Counts g f lo hi rows area (inl j) z.rows z.key_area) (sym k) (i.whole End z (run_ends g f x a z p q item e d))
+
+    pub cannot : Lawful g → (c : ℕ) → a ≡ Refused c → CannotCount g f lo hi (length rows) (length area) c
+    cannot l c d = stops g f lo hi (length rows) (length area) l x i.counting a z law c d
+
+    pub broke_off : (c : ℕ) → a ≡ Refused c → a ≡ (next_of g f x).answer → z ≡ (next_of g f x).left → Counts g f lo hi rows area (inr c) z.rows z.key_area
+    broke_off c d p q = i.whole (Refused c) z (run_refuses g f x a z p q c d)

@@ -1,2 +1,4 @@
 pub mod Counted
 pub mod Finding
+pub mod Finished
+pub mod OneCount

@@ -3,3 +3,4 @@ pub mod BoardLaws
 pub mod EvenSum
 pub mod EvenSumLaws
 pub mod Counting
+pub mod Exhausting

@@ -2,15 +2,14 @@
 ghost use Rattle.std.specs.Prelude.{IfOk, IfErr, length};
 ghost use Rattle.search.specs.Numbers.{number_of};
 ghost use Rattle.search.specs.Queries.{bounds_of};
-ghost use Rattle.own_graph.specs.Counting.{CountsList, CannotCount};
+ghost use Rattle.own_graph.specs.Counting.{Counts, counted_by, CountsList, CannotCount, CountDetermined};
 
 use automaton::Automaton;
 use graph::Graph;
 use search::{Query, Refusal, Row};
 
 /// The number of accepted keys within the bounds of a query, over any graph and any filter.
-/// What the work areas hold afterwards is left free.
-#[tactic(auto, using(crate::proofs::Counted::counted))]
+/// Refused with the reason of the opening, or of the path that stops the search.
 pub fn count_listed<G: Graph, A: Automaton>(
     query: Query<'_>,
     graph: &G,
@@ -18,14 +17,23 @@ pub fn count_listed<G: Graph, A: Automaton>(
     rows: &mut [Row<A::State>],
     key_area: &mut [u8],
 ) -> Result<u32, Refusal>
+    ensures run { let b = bounds_of query.entry in
+        Counts (G.table graph.now) (A.table filter.now) b.lower b.upper rows.old key_area.old (counted_by result) rows.new key_area.new }
     ensures counted { let b = bounds_of query.entry in
-        IfOk result (CountsList (G.table graph.now) (A.table filter.now) b.lower b.upper) }
+        IfOk result (CountsList (G.table graph.now) (A.table filter.now) b.lower b.upper (length rows.old) (length key_area.old)) }
     ensures refused { let b = bounds_of query.entry in
         IfErr result (λ e. CannotCount (G.table graph.now) (A.table filter.now) b.lower b.upper (length rows.old) (length key_area.old) (number_of e)) }
 {
-    let mut search = query
-        .open(graph, filter, rows, key_area)
-        .map_err(|unopened| unopened.refusal)?;
+    let mut search = match query.open(graph, filter, rows, key_area) {
+        Ok(search) => search,
+        Err(unopened) => return Err(unopened.refusal),
+    };
     'keys: while search.next(graph, filter, rows, key_area)?.is_some() {}
     Ok(search.close())
 }
+
+/// Theorem: a count has one number or one refusal, by the numbers of rows and key bytes alone.
+#[tactic(auto, using(crate::proofs::OneCount::count_determined))]
+pub fn count_is_determined<S>()
+    ensures { CountDetermined S }
+{}

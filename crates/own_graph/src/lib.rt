@@ -4,9 +4,10 @@
 mod board;
 mod counting;
 mod even_sum;
+mod exhausting;
 #[cfg(test)]
 mod tests;
 
 pub use board::Board;
-pub use counting::count_listed;
+pub use counting::{count_is_determined, count_listed};
 pub use even_sum::EvenSum;

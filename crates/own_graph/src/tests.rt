@@ -1,5 +1,6 @@
 //! Searches over the own graph, with the own filter, whose answers were worked out by hand.
 use super::*;
+use crate::exhausting::{complements_agree, count_by_two, unions_agree};
 use automaton::{AlwaysMatch, Automaton, Str};
 use search::{Query, Refusal, Row};
 
@@ -83,5 +84,44 @@ fn small_areas_and_large_totals_are_refused(rt: HostRuntime) {
     assert_eq!(rt;
         count!(Query::new(), Board { before }, EvenSum),
         Err(Refusal::SumTooLarge)
+    );
+}
+
+#[test]
+fn counts_of_several_searches_agree(rt: HostRuntime) {
+    let column_a = Str::new(b"a").starts_with();
+    let either = EvenSum.union(column_a);
+    let mut dark = [root_row(&EvenSum); 3];
+    let mut column = [root_row(&column_a); 3];
+    let mut pairs = [root_row(&either); 3];
+    let mut key_area = [0; 2];
+    assert_eq!(rt;
+        unions_agree(
+            &BOARD,
+            &EvenSum,
+            &column_a,
+            b"a2",
+            &mut dark,
+            &mut column,
+            &mut pairs,
+            &mut key_area
+        ),
+        Ok(true)
+    );
+    let mut all = [root_row(&AlwaysMatch); 3];
+    assert_eq!(rt;
+        complements_agree(&BOARD, &EvenSum, b"f5", &mut dark, &mut all, &mut key_area),
+        Ok(true)
+    );
+    assert_eq!(rt;
+        count_by_two(
+            &BOARD,
+            &EvenSum,
+            &mut dark,
+            &mut key_area,
+            &mut [root_row(&EvenSum); 3],
+            &mut [0; 2]
+        ),
+        Ok(Some(32))
     );
 }

@@ -25,7 +25,7 @@ module _ {S : Type 0} (g : Table) (f : Filter S) where
       rw (more_same (h ∙ q)) (fits z (omega arith) (omega arith))
   still_fits_after x y m (refused c d e w q) h s = absurd (never (sym (h ∙ q)))
   still_fits_after x y m (beyond d e w u q) h s = absurd (never (sym (h ∙ q)))
-  still_fits_after x y m (given d e w u c q) h s = absurd (never (sym (h ∙ q)))
+  still_fits_after x y m (given d e w u c i j q) h s = absurd (never (sym (h ∙ q)))
   still_fits_after x y m (passed d e w u c q) h s =
       let a = w.row_free in
       let b = w.byte_free in

@@ -2,7 +2,7 @@
 ghost use Rattle.std.specs.Prelude.{◌≡◌, ℕ, List, true, false, MatchResult};
 ghost use Rattle.law.specs.Values.{too_short, without_key};
 ghost use Rattle.law.specs.Next.{walk, next_of};
-ghost use Rattle.law.specs.Calls.{NextLaw};
+ghost use Rattle.law.specs.Calls.{NextLaw, NextEnds};
 ghost use Rattle.search.specs.Numbers.{number_of};
 ghost use Rattle.search.specs.Views.{search_of, view_of};
 ghost use Rattle.search.specs.Looks.{look_at_waiting};
@@ -107,6 +107,8 @@ impl<S: Copy> Search<'_, S> {
             view_of self.new rows.new key_area.new ≡ (next_of (G.table graph.now) (A.table filter.now) x).left }
         ensures law { let x = view_of self.old rows.old key_area.old in
             NextLaw (G.table graph.now) (A.table filter.now) x (answer_of result) (view_of self.new rows.new key_area.new) }
+        ensures ends { let x = view_of self.old rows.old key_area.old in
+            NextEnds (G.table graph.now) (A.table filter.now) x (answer_of result) (view_of self.new rows.new key_area.new) }
     {
         self.next_key(graph, filter, rows, key_area)
     }

@@ -27,13 +27,11 @@ loop-length-init c =
 pub returns-in_err-length : goal.returns-in_err-length
 returns-in_err-length c = λ a s.
     let l = c.rows_for-rows.ensures in
-    let r = c.loop-length.invariant.rows in
-    let k = c.loop-length.invariant.bytes in
     let e = err_from_is_err_and c.from_residual-in_err-length.result c.from_residual-in_err-length.ensures.1 in
     let b = bounds_of c.args.query in
     let fits = open_fits (graph_table c.args.graph.now) (filter_table c.args.filter.now) b.lower b.upper _ _ _ c.in_ok-search.ensures.answer in
     rw (e.1, e.2)
-    (stops c.loop-length.invariant c.in_err-length.ensures.law s _ refl (omega arith) (omega arith)
+    (stops c.loop-length.invariant c.in_err-length.ensures.law s _ refl
     ∙ ap (λ x. vec_items c.args.out.now ++ x) (entry_lines _ _ _ _ a s (omega arith)))
 
 pub slice_bounds-key_area-end : goal.slice_bounds-key_area-end

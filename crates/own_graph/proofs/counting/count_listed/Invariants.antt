@@ -1,15 +1,14 @@
-use Rattle.std.proofs.Common.{◌-◌, List, length}
-use Rattle.law.specs.Entries.{Entry}
-use Rattle.law.specs.History.{History}
+use Rattle.std.proofs.Common.{◌-◌, length}
 use Rattle.law.proofs.Kept.{listable}
 use Rattle.search.specs.Queries.{bounds_of}
 use Rattle.search.specs.Views.{view_of}
+use Rattle.own_graph.proofs.Counted.{Going}
 use Rattle.own_graph.proofs.counting.count_listed.Given as goal
 
 abbrev pub invariant-keys : goal.invariant-keys
 invariant-keys g l =
     let b = bounds_of l.fn.query in
-    (es : List (Entry _)) × History (g.G.Graph.table l.graph) (g.A.Automaton.table l.filter) b.lower b.upper (view_of l.search l.rows l.key_area) es
+    Going (g.G.Graph.table l.graph) (g.A.Automaton.table l.filter) b.lower b.upper l.fn.rows l.fn.key_area (view_of l.search l.rows l.key_area)
 
 abbrev pub decreases-keys : goal.decreases-keys
 decreases-keys g l =
