@@ -9,7 +9,10 @@ use Rattle.law.specs.Entries as law
 use Rattle.law.specs.Entries.{Lists}
 use Rattle.law.specs.Values.{Search, View, Answer, Handed, End, Refused}
 use Rattle.law.specs.History.{History, Serves, entries}
-use Rattle.law.specs.Paths.{Fits}
+use Rattle.law.specs.Paths.{Follows, Place}
+use Rattle.law.specs.Standing.{StandsAt}
+use Rattle.law.specs.Theorems.{Explains}
+use Rattle.law.proofs.Histories.{handed_out_is_front}
 use Rattle.law.specs.Calls.{NextLaw, GoesOn, CloseLaw, OpenLaw}
 use Rattle.law.proofs.Kept.{listable}
 use Rattle.law.proofs.Unique.{determined}
@@ -54,15 +57,19 @@ module _ {S : Type 0} {g : Table} {f : Filter S} {lower upper : BoundValue} {sta
     on : GoesOn g f lower upper y i.handed y x z
     on = next.goes_on lower upper y i.handed i.history (next.still_fits lower upper y i.handed i.history) (itself y)
 
+    -- the history stands at a place, and the answer explains what it leaves from there
+    place : (p : Place) × StandsAt g f lower y p
+    place = let o = handed_out_is_front g f lower upper i.lawful i.lawful_filter y i.handed i.history in (o.place, o.stands)
+
+    explained : (b : Answer S) → x ≡ b → Explains g f lower upper (Follows place.0) (length y.rows) (length y.key_area) y.search.count on.rest b z
+    explained b e = subst (λ (d : Answer S). Explains g f lower upper (Follows place.0) (length y.rows) (length y.key_area) y.search.count on.rest d z) e (on.fits place.0 place.1)
+
     module _ {n t : ℕ} {s : S} (e : x ≡ Handed n t s) where
       abbrev given : law.Entry S
       given = record { key = take n z.key_area; total = t; state = s }
 
-      fits : Fits g f lower upper y on.rest (Handed n t s) z
-      fits = subst (λ (b : Answer S). Fits g f lower upper y on.rest b z) e on.fits
-
       pub key_inside : n ≤ length z.key_area
-      key_inside = fits.0
+      key_inside = (explained (Handed n t s) e).0
 
       more : i.handed ++ entries x z.key_area ≡ i.handed ++ (given ∷ [])
       more = ap (λ (b : Answer S). i.handed ++ entries b z.key_area) e
@@ -84,8 +91,9 @@ module _ {S : Type 0} {g : Table} {f : Filter S} {lower upper : BoundValue} {sta
       unfolding count_of_all
       counts lawful =
           let l = listable g f lower upper lawful in
-          let later = fits.1.later in
-          let p = fits.1.head in
+          let out = (explained (Handed n t s) e).1 in
+          let later = out.later in
+          let p = out.head in
           let c = on.counted in
           let d : z.search.count ≡ length (i.handed ++ (given ∷ [])) = on.counted_after ∙ ap length more in
           let m : length (i.handed ++ (given ∷ [])) ≡ length i.handed + 1 = length-append i.handed (given ∷ []) in
@@ -97,7 +105,7 @@ module _ {S : Type 0} {g : Table} {f : Filter S} {lower upper : BoundValue} {sta
     module _ {a : Asked} (s : Searches g f lower upper a) where
       pub ends : x ≡ End → (n : ℕ) → CloseLaw S z.search n → (after : Bytes) → after ≡ out ++ end_line n → after ≡ start ++ report 0 (entries_of a)
       ends e n closed after p =
-          let none : on.rest ≡ [] = (subst (λ (b : Answer S). Fits g f lower upper y on.rest b z) e on.fits).0.none_owed in
+          let none : on.rest ≡ [] = (explained End e).0 in
           let all = subst (λ es. Lists g f lower upper es) (ap (λ es. i.handed ++ es) none ∙ append-nil i.handed) on.whole in
           let same : i.handed ++ entries x z.key_area ≡ i.handed = ap (λ (b : Answer S). i.handed ++ entries b z.key_area) e ∙ append-nil i.handed in
           let m : n ≡ length i.handed =
@@ -106,5 +114,5 @@ module _ {S : Type 0} {g : Table} {f : Filter S} {lower upper : BoundValue} {sta
 
       pub stops : (c : ℕ) → x ≡ Refused c → out ++ refused_line 16 ≡ start ++ report 0 (entries_of a)
       stops c e =
-          let (v, why, left, stands) = subst (λ (d : Answer S). Fits g f lower upper y on.rest d z) e on.fits in
-          (told_refused start g f lower upper a s out i.handed i.told y on.rest v c on.whole on.counted i.rows i.bytes why).1
+          let (v, why, stands) = explained (Refused c) e in
+          (told_refused start g f lower upper a s out i.handed i.told (Follows place.0) y on.rest v c on.whole on.counted i.rows i.bytes why).1

@@ -34,8 +34,8 @@ module _ {S : Type 0} (g : Table) (f : Filter S) (lower upper : BoundValue) (a :
   pub open_refused : (rows bytes c : ℕ) → 256 ≤ rows → 255 ≤ bytes → OpenReason g lower rows bytes c → 255 < length (bytes_of lower)
   open_refused rows bytes c h l (too_few_rows k) = omega arith
   open_refused rows bytes c h l (too_few_bytes i k) = omega arith
-  open_refused rows bytes c h l (path_too_large i j w b v m u d p k) = let e = s.path_total (w ++ (b ∷ [])) m u p in let n = s.shift_fits in absurd (omega arith)
-  open_refused rows bytes c h l (empty_key_too_large j o q t p k) =
+  open_refused rows bytes c h l (path_too_large i w b v m u d p k) = let e = s.path_total (w ++ (b ∷ [])) m u p in let n = s.shift_fits in absurd (omega arith)
+  open_refused rows bytes c h l (empty_key_too_large o q j t p k) =
       let (i, n, d, e) = s.key_is_name [] t p in
       let z = first i n d (cases_lt 0 i) in
       let q = s.shift_fits in

@@ -10,7 +10,7 @@ use Rattle.graph.specs.Keys.{Leads}
 use Rattle.law.specs.Entries as law
 use Rattle.law.specs.Entries.{Lists}
 use Rattle.law.specs.Values.{View}
-use Rattle.law.specs.Paths.{ToCome, Reason, stack_full, key_area_full, path_too_large, total_too_large, count_full}
+use Rattle.law.specs.Paths.{Reason, Stops, stack_full, key_area_full, path_too_large, total_too_large, count_full}
 use Rattle.input.specs.Number.{most}
 use Rattle.input.specs.Asked.{Asked}
 use Rattle.account.specs.Chosen.{is_chosen}
@@ -83,16 +83,19 @@ module _ {S : Type 0} (start : Bytes) where
         let l = s.low in
         omega arith
 
-    -- with so many rows and key bytes, a refusal is 16 for the total of the next entry
-    pub told_refused : (y : View S) (rest : List (law.Entry S)) (v : Bytes) (c : ℕ)
+    -- with 256 rows and 255 key bytes, a refusal is 16 for the total of the next entry
+    pub told_refused : (coming : Bytes → Type 0) (y : View S) (rest : List (law.Entry S)) (v : Bytes) (c : ℕ)
         → Lists g f lower upper (es ++ rest) → y.search.count ≡ length es → 256 ≤ length y.rows → 255 ≤ length y.key_area →
-        Reason g f lower upper (ToCome g f y) (length y.rows) (length y.key_area) y.search.count rest v c → (c ≡ 16) × (out ++ refused_line 16 ≡ start ++ report 0 (entries_of a))
-    told_refused y rest v c l n rows bytes (stack_full u m h) = let k = path_short v m.entered.node u m.entered.leads in absurd (omega arith)
-    told_refused y rest v c l n rows bytes (key_area_full u m i h) = let k = path_short v m.entered.node u m.entered.leads in absurd (omega arith)
-    told_refused y rest v c l n rows bytes (path_too_large u m i j h) = let e = s.path_total v m.entered.node u m.entered.leads in let k = s.shift_fits in absurd (omega arith)
-    told_refused y rest v c l n rows bytes (total_too_large u m i e later p d h) = (refl, too_large e later (subst (λ z. Lists g f lower upper (es ++ z)) p l) h)
-    told_refused y rest v c l n rows bytes (count_full u m i e later p d t h) =
-        let o = few_entries a 0 a.names in
-        let k = s.few in
-        let q = ap length (sym (same_entries g f lower upper a s (es ++ rest) l)) ∙ length-map (es ++ rest) entry_of ∙ length-append es rest in
-        absurd (omega arith)
+        Reason g f lower upper coming (length y.rows) (length y.key_area) y.search.count rest v c → (c ≡ 16) × (out ++ refused_line 16 ≡ start ++ report 0 (entries_of a))
+    told_refused coming y rest v c l n rows bytes (u, m, z) = go z
+      where
+        go : {c : ℕ} → Stops (length y.rows) (length y.key_area) y.search.count rest v u c → (c ≡ 16) × (out ++ refused_line 16 ≡ start ++ report 0 (entries_of a))
+        go (stack_full h) = let k = path_short v m.path.node u m.path.leads in absurd (omega arith)
+        go (key_area_full i h) = let k = path_short v m.path.node u m.path.leads in absurd (omega arith)
+        go (path_too_large i h) = let e = s.path_total v m.path.node u m.path.leads in let k = s.shift_fits in absurd (omega arith)
+        go (total_too_large i t (r, later, p) h) = (refl, too_large (record { key = v; total = t; state = r }) later (subst (λ z. Lists g f lower upper (es ++ z)) p l) h)
+        go (count_full i t (r, later, p) j h) =
+            let o = few_entries a 0 a.names in
+            let k = s.few in
+            let q = ap length (sym (same_entries g f lower upper a s (es ++ rest) l)) ∙ length-map (es ++ rest) entry_of ∙ length-append es rest in
+            absurd (omega arith)

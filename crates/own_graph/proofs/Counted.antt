@@ -10,28 +10,20 @@ use Rattle.law.specs.Entries.{Entry, Lists, ◌∈◌}
 use Rattle.law.specs.Values.{Search, View, Answer, Handed, End, Refused, Result, most, most_keys}
 use Rattle.law.specs.declared.Row.{Row}
 use Rattle.law.specs.Next.{next_of}
-use Rattle.law.specs.Open.{open_of}
+use Rattle.law.specs.Open.{Opening, open_of}
 use Rattle.law.specs.History.{Serves, History, entries}
-use Rattle.law.specs.Paths.{Place, at_start, behind, Follows, StandsAt, ToCome, PathOf, PathFits, ComesTo, Reason, stack_full, key_area_full, path_too_large, total_too_large, count_full, Fits, Ends}
+use Rattle.law.specs.Paths.{Place, at_start, after, Follows, PathOf, PathFits, ComesTo, NextIs, AllFit}
+use Rattle.law.specs.Standing.{StandsAt}
+use Rattle.law.specs.Theorems.{Explains}
 use Rattle.law.specs.Calls.{NextLaw, GoesOn, CloseLaw, Opened, OpenReason}
 use Rattle.law.proofs.Unique.{determined, one_total}
 use Rattle.law.proofs.Members.{in_right, in_either, rises_across}
-use Rattle.law.proofs.Entering.{one_entered}
+use Rattle.law.proofs.Entering.{one_path_sum, fits_same, all_fits}
 use Rattle.law.proofs.Determinacy.{three_ways}
 use native.Mathlib.Decide.{ℕ_discrete}
 use Rattle.law.proofs.Kept.{listable}
 use Rattle.search.specs.Answers.{item_of}
-use Rattle.own_graph.specs.Counting.{Runs, ends, refuses, hands, Counts, unopened, opened, told, CountsList, CannotCount, stopped}
-
--- the same reason, where the same path is come to
-reason_with : {S : Type 0} (g : Table) (f : Filter S) (lo hi : BoundValue) (coming others : Bytes → Type 0) (rows bytes count : ℕ) (rest : List (Entry S)) (v : Bytes) (c : ℕ) →
-    ((u : ℕ) → ComesTo g f lo hi coming rows bytes count rest v u → ComesTo g f lo hi others rows bytes count rest v u) →
-    Reason g f lo hi coming rows bytes count rest v c → Reason g f lo hi others rows bytes count rest v c
-reason_with g f lo hi coming others rows bytes count rest v c on (stack_full u m h) = stack_full u (on u m) h
-reason_with g f lo hi coming others rows bytes count rest v c on (key_area_full u m h i) = key_area_full u (on u m) h i
-reason_with g f lo hi coming others rows bytes count rest v c on (path_too_large u m h i j) = path_too_large u (on u m) h i j
-reason_with g f lo hi coming others rows bytes count rest v c on (total_too_large u m n e later p d h) = total_too_large u (on u m) n e later p d h
-reason_with g f lo hi coming others rows bytes count rest v c on (count_full u m n e later p d h i) = count_full u (on u m) n e later p d h i
+use Rattle.own_graph.specs.Counting.{Runs, ends, stops, hands, Counts, unopened, opened, view_after, CountsList, CannotCount, stopped}
 
 one_more : (n m : ℕ) → n ≤ most_keys → (n ≡ most_keys → ⊥) → m ≡ n + 1 → m ≤ most_keys
 one_more n m h e d = go (ℕ_discrete n most_keys)
@@ -77,36 +69,40 @@ module _ {S : Type 0} (g : Table) (f : Filter S) (lo hi : BoundValue) (rows byte
     on : GoesOn g f lo hi x i.handed x a z
     on = law.goes_on lo hi x i.handed i.history (law.still_fits lo hi x i.handed i.history) itself
 
-    -- what is passed before a path to which the call comes
-    before_it : (count : ℕ) (rest : List (Entry S)) (v : Bytes) (u : ℕ) → ComesTo g f lo hi (ToCome g f x) (length x.rows) (length x.key_area) count rest v u →
-        (w : Bytes) (s : ℕ) → PathOf g f lo w s → w ≺ v → PathFits rows bytes w s × To hi w
-    before_it count rest v u m w s en t = go (i.passed w s en)
-      where
-        resized : PathFits (length x.rows) (length x.key_area) w s × To hi w → PathFits rows bytes w s × To hi w
-        resized (n, p) =
-            let j = i.rows_same in
-            let k = i.bytes_same in
-            let a = n.row_free in
-            let b = n.byte_free in
-            (record { row_free = omega arith; byte_free = omega arith; sum_fits = n.sum_fits }, p)
+    -- what the answer explains, from the place that the count has come to
+    explained : Explains g f lo hi (Follows i.place) rows bytes (length i.handed) on.rest a z
+    explained =
+        subst (λ (j : ℕ). Explains g f lo hi (Follows i.place) rows bytes j on.rest a z) on.counted
+        (subst (λ (j : ℕ). Explains g f lo hi (Follows i.place) rows j x.search.count on.rest a z) i.bytes_same
+        (subst (λ (j : ℕ). Explains g f lo hi (Follows i.place) j (length x.key_area) x.search.count on.rest a z) i.rows_same (on.fits i.place i.stands)))
 
+    -- what is passed before a path to which the call comes
+    before_it : (v : Bytes) (u : ℕ) → ComesTo g f lo hi (Follows i.place) rows bytes on.rest v u →
+        (w : Bytes) (s : ℕ) → PathOf g f lo w s → w ≺ v → PathFits rows bytes w s × To hi w
+    before_it v u m w s en t = go (i.passed w s en)
+      where
         go : Follows i.place w ⊎ (PathFits rows bytes w s × To hi w) → PathFits rows bytes w s × To hi w
         go (inr n) = n
-        go (inl q) = resized (m.before w s en ((i.stands w s en).1 q) t)
+        go (inl q) = m.passed w s en q t
 
-    handed_below : (count : ℕ) (rest : List (Entry S)) (v : Bytes) (u : ℕ) → ComesTo g f lo hi (ToCome g f x) (length x.rows) (length x.key_area) count rest v u →
-        (e : Entry S) → e ∈ i.handed → e.key ≺ v
-    handed_below count rest v u m e n = i.below e n v u m.path ((i.stands v u m.path).0 m.to_come)
+    handed_below : (v : Bytes) (u : ℕ) → ComesTo g f lo hi (Follows i.place) rows bytes on.rest v u → (e : Entry S) → e ∈ i.handed → e.key ≺ v
+    handed_below v u m e n = i.below e n v u m.path m.to_come
 
     module _ (n t : ℕ) (s : S) (q : a ≡ Handed n t s) where
-      fits : Fits g f lo hi x on.rest (Handed n t s) z
-      fits = subst (λ (b : Answer S). Fits g f lo hi x on.rest b z) q on.fits
+      fits : Explains g f lo hi (Follows i.place) rows bytes (length i.handed) on.rest (Handed n t s) z
+      fits = subst (λ (b : Answer S). Explains g f lo hi (Follows i.place) rows bytes (length i.handed) on.rest b z) q explained
 
       abbrev key : Bytes
       key = take n z.key_area
 
       abbrev entry : Entry S
       entry = record { key = key; total = t; state = s }
+
+      next_is : NextIs on.rest key t
+      next_is = (s, fits.1.later, fits.1.head)
+
+      unstopped : PathFits rows bytes key fits.1.sum × (t ≤ most) × (length i.handed ≢ most_keys)
+      unstopped = all_fits rows bytes (length i.handed) on.rest key fits.1.sum t next_is fits.1.unstopped
 
       all_handed : i.handed ++ entries a z.key_area ≡ i.handed ++ (entry ∷ [])
       all_handed = ap (λ (b : Answer S). i.handed ++ entries b z.key_area) q
@@ -116,7 +112,7 @@ module _ {S : Type 0} (g : Table) (f : Filter S) (lo hi : BoundValue) (rows byte
         opens = i.opens;
         handed = i.handed ++ (entry ∷ []);
         history = subst (λ (es : List (Entry S)). History g f lo hi z es) all_handed on.after;
-        place = behind key;
+        place = after key;
         stands = fits.2;
         passed = λ w u en. now_passed w u en (three_ways w key);
         below = λ e m w u en p. now_below e w u en p (in_either e i.handed (entry ∷ []) m);
@@ -124,43 +120,31 @@ module _ {S : Type 0} (g : Table) (f : Filter S) (lo hi : BoundValue) (rows byte
         few =
             let h = length-append i.handed (entry ∷ []) in
             let j = i.few in
-            let k = on.counted in
-            one_more (length i.handed) _ j (λ p. fits.1.not_full (k ∙ p)) h;
+            one_more (length i.handed) _ j unstopped.2 h;
         rows_same = r;
         bytes_same = b;
       }
         where
-          comes : ComesTo g f lo hi (ToCome g f x) (length x.rows) (length x.key_area) x.search.count on.rest key fits.1.sum
+          comes : ComesTo g f lo hi (Follows i.place) rows bytes on.rest key fits.1.sum
           comes = fits.1.comes
 
           now_passed : (w : Bytes) (u : ℕ) → PathOf g f lo w u → (w ≺ key) ⊎ ((w ≡ key) ⊎ (key ≺ w)) → (key ≺ w) ⊎ (PathFits rows bytes w u × To hi w)
-          now_passed w u en (inl p) = inr (before_it x.search.count on.rest key fits.1.sum comes w u en p)
+          now_passed w u en (inl p) = inr (before_it key fits.1.sum comes w u en p)
           now_passed w u en (inr (inr p)) = inl p
-          now_passed w u en (inr (inl p)) = inr (here, subst (To hi) (sym p) inside)
+          now_passed w u en (inr (inl p)) =
+              inr (fits_same w key u fits.1.sum rows bytes p (one_path_sum g f lo l w u en key fits.1.sum comes.path p) unstopped.0, subst (To hi) (sym p) inside)
             where
-              here : PathFits rows bytes w u
-              here =
-                  let j = i.rows_same in
-                  let k = i.bytes_same in
-                  let room = fits.1.enterable in
-                  let c = room.row_free in
-                  let d = room.byte_free in
-                  let o = room.sum_fits in
-                  let h = ap length p in
-                  let m = one_entered g f lo l w u en key fits.1.sum comes.path p in
-                  record { row_free = omega arith; byte_free = omega arith; sum_fits = omega arith }
-
               inside : To hi key
               inside = ((on.whole.exact entry).0 (in_right entry i.handed on.rest (subst (λ (l : List (Entry S)). entry ∈ l) (sym fits.1.head) (inl refl)))).within.to
 
           now_below : (e : Entry S) (w : Bytes) (u : ℕ) → PathOf g f lo w u → key ≺ w → (e ∈ i.handed) ⊎ (e ∈ (entry ∷ [])) → e.key ≺ w
-          now_below e w u en p (inl m) = transitive e.key key w (handed_below x.search.count on.rest key fits.1.sum comes e m) p
+          now_below e w u en p (inl m) = transitive e.key key w (handed_below key fits.1.sum comes e m) p
           now_below e w u en p (inr (inl d)) = subst (λ (k : Entry S). k.key ≺ w) (sym d) p
           now_below e w u en p (inr (inr m)) = absurd m
 
           now_fits : (e : Entry S) → (e ∈ i.handed) ⊎ (e ∈ (entry ∷ [])) → e.total ≤ most
           now_fits e (inl m) = i.totals e m
-          now_fits e (inr (inl d)) = subst (λ (k : Entry S). k.total ≤ most) (sym d) fits.1.total_fits
+          now_fits e (inr (inl d)) = subst (λ (k : Entry S). k.total ≤ most) (sym d) unstopped.1
           now_fits e (inr (inr m)) = absurd m
 
       -- the count, which was below the length of the list, rises
@@ -176,61 +160,32 @@ module _ {S : Type 0} (g : Table) (f : Filter S) (lo hi : BoundValue) (rows byte
     -- the end: what was handed out is the whole list
     pub counted : LawfulFilter f → a ≡ End → (n : ℕ) → CloseLaw S z.search n → CountsList g f lo hi rows bytes n
     counted m q n closed =
-        let (fits, stands) = subst (λ (b : Answer S). Fits g f lo hi x on.rest b z) q on.fits in
+        let (none, fit, stands) = subst (λ (b : Answer S). Explains g f lo hi (Follows i.place) rows bytes (length i.handed) on.rest b z) q explained in
         let c = closed.complete g f l m lo hi i.handed (on.exhausted q) in
         record {
           opens = i.opens;
           list = i.handed;
           whole = c.0;
           number = c.1;
-          passes = record { none_owed = refl; enterable = λ v u en st h. go fits v u en h (i.passed v u en) };
+          fit = λ v u en st h. go fit v u en h (i.passed v u en);
           totals_fit = i.totals;
           few = i.few;
         }
       where
-        go : Ends g f lo hi (ToCome g f x) (length x.rows) (length x.key_area) x.search.count on.rest → (v : Bytes) (u : ℕ) → PathOf g f lo v u →
+        go : AllFit g f lo hi (Follows i.place) rows bytes → (v : Bytes) (u : ℕ) → PathOf g f lo v u →
             ((w : Bytes) (s : ℕ) → PathOf g f lo w s → Unit {0} → w ≺ v → To hi w) → Follows i.place v ⊎ (PathFits rows bytes v u × To hi v) → PathFits rows bytes v u
         go e v u en h (inr p) = p.0
-        go e v u en h (inl p) =
-            let n = e.enterable v u en ((i.stands v u en).1 p) (λ w s o c t. h w s o tt t) in
-            let j = i.rows_same in
-            let k = i.bytes_same in
-            let r = n.row_free in
-            let b = n.byte_free in
-            record { row_free = omega arith; byte_free = omega arith; sum_fits = n.sum_fits }
+        go e v u en h (inl p) = e v u en p (λ w s o c t. h w s o tt t)
 
     -- a refusal: the path that stops the search
-    pub stops : (c : ℕ) → a ≡ Refused c → CannotCount g f lo hi rows bytes c
-    stops c q =
-        let (v, why, left, stands) = subst (λ (b : Answer S). Fits g f lo hi x on.rest b z) q on.fits in
-        stopped i.opens i.handed on.rest v on.whole (λ e m. (under v c why e m, i.totals e m)) i.few
-        (reason_with g f lo hi (ToCome g f x) (Follows at_start) rows bytes (length i.handed) on.rest v c (λ u m. from_start v u m) (resized v c why))
+    pub cannot_count : (c : ℕ) → a ≡ Refused c → CannotCount g f lo hi rows bytes c
+    cannot_count c q =
+        let (v, why, stands) = subst (λ (b : Answer S). Explains g f lo hi (Follows i.place) rows bytes (length i.handed) on.rest b z) q explained in
+        let (u, m, s) = why in
+        stopped i.opens i.handed on.rest v on.whole (λ e n. (handed_below v u m e n, i.totals e n)) i.few (u, from_start v u m, s)
       where
-        resized : (v : Bytes) (c : ℕ) → Reason g f lo hi (ToCome g f x) (length x.rows) (length x.key_area) x.search.count on.rest v c →
-            Reason g f lo hi (ToCome g f x) rows bytes (length i.handed) on.rest v c
-        resized v c why =
-            subst (λ (j : ℕ). Reason g f lo hi (ToCome g f x) rows bytes j on.rest v c) on.counted
-            (subst (λ (j : ℕ). Reason g f lo hi (ToCome g f x) rows j x.search.count on.rest v c) i.bytes_same
-            (subst (λ (j : ℕ). Reason g f lo hi (ToCome g f x) j (length x.key_area) x.search.count on.rest v c) i.rows_same why))
-
-        from_start : (v : Bytes) (u : ℕ) → ComesTo g f lo hi (ToCome g f x) rows bytes (length i.handed) on.rest v u → ComesTo g f lo hi (Follows at_start) rows bytes (length i.handed) on.rest v u
-        from_start v u m = record {
-          path = m.path;
-          to_come = tt;
-          before = λ w s en st t. earlier w s en t (i.passed w s en);
-          owed = m.owed;
-        }
-          where
-            earlier : (w : Bytes) (s : ℕ) → PathOf g f lo w s → w ≺ v → Follows i.place w ⊎ (PathFits rows bytes w s × To hi w) → PathFits rows bytes w s × To hi w
-            earlier w s en t (inr p) = p
-            earlier w s en t (inl p) = m.before w s en ((i.stands w s en).1 p) t
-
-        under : (v : Bytes) (c : ℕ) → Reason g f lo hi (ToCome g f x) (length x.rows) (length x.key_area) x.search.count on.rest v c → (e : Entry S) → e ∈ i.handed → e.key ≺ v
-        under v c (stack_full u m h) e n = handed_below x.search.count on.rest v u m e n
-        under v c (key_area_full u m h j) e n = handed_below x.search.count on.rest v u m e n
-        under v c (path_too_large u m h j k) e n = handed_below x.search.count on.rest v u m e n
-        under v c (total_too_large u m r y later p d h) e n = handed_below x.search.count on.rest v u m e n
-        under v c (count_full u m r y later p d h j) e n = handed_below x.search.count on.rest v u m e n
+        from_start : (v : Bytes) (u : ℕ) → ComesTo g f lo hi (Follows i.place) rows bytes on.rest v u → ComesTo g f lo hi (Follows at_start) rows bytes on.rest v u
+        from_start v u m = record { path = m.path; to_come = tt; passed = λ w s en st t. before_it v u m w s en t; owed = m.owed }
 
     -- by the item that a call answers
     pub handed_on : (item : Option (ℕ × ℕ × S)) → is_some item ≡ true → a ≡ item_of item → length z.rows ≡ rows → length z.key_area ≡ bytes →
@@ -247,43 +202,47 @@ module _ {S : Type 0} (g : Table) (f : Filter S) (x : View S) (a : Answer S) (z 
   as_one : (b : Answer S) → a ≡ b → next_of g f x ≡ record { answer = b; left = z }
   as_one b e = λ i. record { answer = (sym p ∙ e) i; left = sym q i }
 
-  pub runs_on : (item : Option (ℕ × ℕ × S)) → is_some item ≡ true → a ≡ item_of item → (b : Answer S) (y : View S) → Runs g f z b y → Runs g f x b y
-  runs_on None e d b y r = cc
-  runs_on (Some (n, t, s)) e d b y r = hands (as_one (Handed n t s) d) r
+  pub runs_on : (item : Option (ℕ × ℕ × S)) → is_some item ≡ true → a ≡ item_of item → (r : ℕ ⊎ ℕ) (y : View S) → Runs g f z r y → Runs g f x r y
+  runs_on None e d r y run = cc
+  runs_on (Some (n, t, s)) e d r y run = hands (as_one (Handed n t s) d) run
 
-  pub run_ends : (item : Option (ℕ × ℕ × S)) → is_some item ≡ false → a ≡ item_of item → Runs g f x End z
+  pub run_ends : (item : Option (ℕ × ℕ × S)) → is_some item ≡ false → a ≡ item_of item → Runs g f x (inl z.search.count) z
   run_ends None e d = ends (as_one End d)
   run_ends (Some i) e d = cc
 
-  pub run_refuses : (c : ℕ) → a ≡ Refused c → Runs g f x (Refused c) z
-  run_refuses c d = refuses (as_one (Refused c) d)
+  pub run_stops : (c : ℕ) → a ≡ Refused c → Runs g f x (inr c) z
+  run_stops c d = stops (as_one (Refused c) d)
 
 -- what has been counted with these areas; and a run from here is one of the whole
 pub record Going {S : Type 0} (g : Table) (f : Filter S) (lo hi : BoundValue) (rows : List (Row S)) (area : Bytes) (x : View S) : Type 0 where
   pub counting : Counting g f lo hi (length rows) (length area) x
-  pub whole : (a : Answer S) (z : View S) → Runs g f x a z → Counts g f lo hi rows area (told a z) z.rows z.key_area
+  pub whole : (r : ℕ ⊎ ℕ) (z : View S) → Runs g f x r z → Counts g f (open_of g f lo hi rows area) r z.rows z.key_area
 
 module _ {S : Type 0} (g : Table) (f : Filter S) (lo hi : BoundValue) (rows : List (Row S)) (area : Bytes) where
-  pub starts : (l : Lawful g) (rows₁ : List (Row S)) (area₁ : Bytes) → rows₁ ≡ (open_of g f lo hi rows area).rows → area₁ ≡ (open_of g f lo hi rows area).key_area →
-      (s : Search) → inl s ≡ (open_of g f lo hi rows area).outcome → length rows₁ ≡ length rows → length area₁ ≡ length area →
-      Opened g f lo hi (record { search = s; rows = rows₁; key_area = area₁ }) → Going g f lo hi rows area (record { search = s; rows = rows₁; key_area = area₁ })
+  abbrev start : Opening S
+  start = open_of g f lo hi rows area
+
+  pub starts : (l : Lawful g) (rows₁ : List (Row S)) (area₁ : Bytes) → rows₁ ≡ start.rows → area₁ ≡ start.key_area → (s : Search) → inl s ≡ start.outcome →
+      length rows₁ ≡ length rows → length area₁ ≡ length area → Opened g f lo hi (record { search = s; rows = rows₁; key_area = area₁ }) →
+      Going g f lo hi rows area (record { search = s; rows = rows₁; key_area = area₁ })
   starts l rows₁ area₁ p q s e i j o = record {
     counting = begun g f lo hi (length rows) (length area) l (record { search = s; rows = rows₁; key_area = area₁ }) i j o;
-    whole = λ a z r. opened s (sym e) a z
-        (subst (λ (i : List (Row S)). Runs g f (record { search = s; rows = i; key_area = (open_of g f lo hi rows area).key_area }) a z) p
-        (subst (λ (i : Bytes). Runs g f (record { search = s; rows = rows₁; key_area = i }) a z) q r)) refl refl refl;
+    whole = λ r z run. opened s (sym e) r z
+        (subst (λ (i : List (Row S)). Runs g f (record { search = s; rows = i; key_area = start.key_area }) r z) p
+        (subst (λ (i : Bytes). Runs g f (record { search = s; rows = rows₁; key_area = i }) r z) q run));
   }
 
-  pub not_started : (rows₁ : List (Row S)) (area₁ : Bytes) → rows₁ ≡ (open_of g f lo hi rows area).rows → area₁ ≡ (open_of g f lo hi rows area).key_area →
-      (c : ℕ) → inr c ≡ (open_of g f lo hi rows area).outcome → Counts g f lo hi rows area (inr c) rows₁ area₁
-  not_started rows₁ area₁ p q c e = unopened c (sym e) refl p q
+  pub not_started : (rows₁ : List (Row S)) (area₁ : Bytes) → rows₁ ≡ start.rows → area₁ ≡ start.key_area → (c : ℕ) → inr c ≡ start.outcome →
+      Counts g f start (inr c) rows₁ area₁
+  not_started rows₁ area₁ p q c e =
+      subst (λ (i : List (Row S)). Counts g f start (inr c) i area₁) (sym p) (subst (Counts g f start (inr c) start.rows) (sym q) (unopened c (sym e)))
 
   module _ (x : View S) (i : Going g f lo hi rows area x) (a : Answer S) (z : View S) (law : NextLaw g f x a z) where
     pub went_on : Lawful g → (item : Option (ℕ × ℕ × S)) → is_some item ≡ true → a ≡ item_of item → a ≡ (next_of g f x).answer → z ≡ (next_of g f x).left →
         length z.rows ≡ length rows → length z.key_area ≡ length area → Going g f lo hi rows area z
     went_on l item e d p q r b = record {
       counting = (handed_on g f lo hi (length rows) (length area) l x i.counting a z law item e d r b).0;
-      whole = λ c y run. i.whole c y (runs_on g f x a z p q item e d c y run);
+      whole = λ n y run. i.whole n y (runs_on g f x a z p q item e d n y run);
     }
 
     pub rises : (l : Lawful g) (item : Option (ℕ × ℕ × S)) → is_some item ≡ true → a ≡ item_of item → length z.rows ≡ length rows → length z.key_area ≡ length area →
@@ -295,11 +254,11 @@ module _ {S : Type 0} (g : Table) (f : Filter S) (lo hi : BoundValue) (rows : Li
     lists l m item e d n closed = counted_all g f lo hi (length rows) (length area) l x i.counting a z law m item e d n closed
 
     pub ran : (item : Option (ℕ × ℕ × S)) → is_some item ≡ false → a ≡ item_of item → a ≡ (next_of g f x).answer → z ≡ (next_of g f x).left → (n : ℕ) → n ≡ z.search.count →
-        Counts g f lo hi rows area (inl n) z.rows z.key_area
-    ran item e d p q n k = subst (λ (j : ℕ). Counts g f lo hi rows area (inl j) z.rows z.key_area) (sym k) (i.whole End z (run_ends g f x a z p q item e d))
+        Counts g f start (inl n) z.rows z.key_area
+    ran item e d p q n k = subst (λ (j : ℕ). Counts g f start (inl j) z.rows z.key_area) (sym k) (i.whole (inl z.search.count) z (run_ends g f x a z p q item e d))
 
     pub cannot : Lawful g → (c : ℕ) → a ≡ Refused c → CannotCount g f lo hi (length rows) (length area) c
-    cannot l c d = stops g f lo hi (length rows) (length area) l x i.counting a z law c d
+    cannot l c d = cannot_count g f lo hi (length rows) (length area) l x i.counting a z law c d
 
-    pub broke_off : (c : ℕ) → a ≡ Refused c → a ≡ (next_of g f x).answer → z ≡ (next_of g f x).left → Counts g f lo hi rows area (inr c) z.rows z.key_area
-    broke_off c d p q = i.whole (Refused c) z (run_refuses g f x a z p q c d)
+    pub broke_off : (c : ℕ) → a ≡ Refused c → a ≡ (next_of g f x).answer → z ≡ (next_of g f x).left → Counts g f start (inr c) z.rows z.key_area
+    broke_off c d p q = i.whole (inr c) z (run_stops g f x a z p q c d)

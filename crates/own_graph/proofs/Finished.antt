@@ -7,9 +7,10 @@ use Rattle.filter.specs.Filter.{Filter, Lawful as LawfulFilter}
 use Rattle.law.specs.Entries.{Entry, Lists}
 use Rattle.law.specs.Values.{View, Answer, Refused, Handed, Search, Part, Standing}
 use Rattle.law.specs.History.{Serves, History, entries}
-use Rattle.law.specs.Paths.{Fits}
-use Rattle.law.specs.Theorems.{Exhausted}
+use Rattle.law.specs.Paths.{Follows}
+use Rattle.law.specs.Theorems.{Exhausted, Explains}
 use Rattle.law.specs.Calls.{NextLaw, GoesOn, CloseLaw, KeyLaw, stands_after}
+use Rattle.law.proofs.Histories.{handed_out_is_front}
 use Rattle.law.proofs.Unique.{determined}
 use Rattle.law.proofs.Kept.{listable}
 use Rattle.search.specs.Answers.{item_of}
@@ -23,14 +24,15 @@ module _ {S : Type 0} (g : Table) (f : Filter S) (lo hi : BoundValue) (x : View 
   goes_on = law.goes_on lo hi x es h (law.still_fits lo hi x es h) itself
 
   -- a key handed out: the history goes on, and the count, which was below the length of the list, rises
-  pub handed : (l : Lawful g) (item : Option (ℕ × ℕ × S)) → is_some item ≡ true → a ≡ item_of item →
+  pub handed : (l : Lawful g) → LawfulFilter f → (item : Option (ℕ × ℕ × S)) → is_some item ≡ true → a ≡ item_of item →
       ((fs : List (Entry S)) × History g f lo hi z fs) × (x.search.count < z.search.count) × (x.search.count < length (listable g f lo hi l).0)
-  handed l None p q = cc
-  handed l (Some (n, t, s)) p q =
+  handed l m None p q = cc
+  handed l m (Some (n, t, s)) p q =
       let o = goes_on in
+      let past = handed_out_is_front g f lo hi l m x es h in
       let c = o.counted in
       let d : z.search.count ≡ length es + 1 = o.counted_after ∙ ap (λ (b : Answer S). length (es ++ entries b z.key_area)) q ∙ length-append es _ in
-      let fits = subst (λ (b : Answer S). Fits g f lo hi x o.rest b z) q o.fits in
+      let fits = subst (λ (b : Answer S). Explains g f lo hi (Follows past.place) (length x.rows) (length x.key_area) x.search.count o.rest b z) q (o.fits past.place past.stands) in
       let k : length (listable g f lo hi l).0 ≡ length es + length o.rest =
       ap length (determined g f lo hi l (listable g f lo hi l).0 (es ++ o.rest) (listable g f lo hi l).1 o.whole) ∙ length-append es o.rest in
       let j : length o.rest ≡ suc (length fits.1.later) = ap length fits.1.head in

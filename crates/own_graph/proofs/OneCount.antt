@@ -7,14 +7,14 @@ use Rattle.graph.specs.Table.{Table, Lawful}
 use Rattle.filter.specs.Filter.{Filter}
 use Rattle.law.specs.Entries.{Entry, Lists, Rises, ◌∈◌}
 use Rattle.law.specs.Values.{most, most_keys}
-use Rattle.law.specs.Paths.{at_start, Follows, PathFits, ComesTo, Reason, stack_full, key_area_full, path_too_large, total_too_large, count_full, Ends}
+use Rattle.law.specs.Paths.{at_start, Follows, PathFits, ComesTo, NextIs, Stops, stack_full, key_area_full, path_too_large, total_too_large, count_full, Reason}
 use Rattle.law.specs.Calls.{OpenReason}
 use Rattle.law.proofs.Unique.{determined}
 use Rattle.law.proofs.Members.{in_right, in_either}
 use Rattle.law.proofs.Determinacy.{three_ways, one_reason, one_open_reason}
 use Rattle.own_graph.specs.Counting.{CountsList, CannotCount, not_opened, stopped, OneCount, CountDetermined}
 
--- v is not behind the key
+-- v is not after the key
 abbrev From : {S : Type 0} → Bytes → Entry S → Type 0
 From v e = (v ≡ e.key) ⊎ (v ≺ e.key)
 
@@ -34,7 +34,7 @@ one_parting v (x ∷ xs) ys (z ∷ zs) ws e a b c d =
     let (r, s) = one_parting v xs ys zs ws q (λ y m. a y (inr m)) (λ y m. b y (inr m)) c d in
     (cc, s)
 
--- the entry behind xs stands in a longer front
+-- the entry after xs stands in a longer front
 longer : {S : Type 0} (e : Entry S) (xs later zs ws : List (Entry S)) → xs ++ (e ∷ later) ≡ zs ++ ws → Rises (xs ++ (e ∷ later)) → e ∈ zs → length xs < length zs
 longer e [] later [] ws p r m = absurd m
 longer e [] later (z ∷ zs) ws p r m = omega arith
@@ -52,29 +52,28 @@ module _ {S : Type 0} (g : Table) (f : Filter S) (lo hi : BoundValue) (law : Law
   Why es rest v c = Reason g f lo hi (Follows at_start) rows bytes (length es) rest v c
 
   abbrev Comes : List (Entry S) → List (Entry S) → Bytes → ℕ → Type 0
-  Comes es rest v u = ComesTo g f lo hi (Follows at_start) rows bytes (length es) rest v u
+  Comes es rest v u = ComesTo g f lo hi (Follows at_start) rows bytes rest v u
 
   comes : (es rest : List (Entry S)) (v : Bytes) (c : ℕ) → Why es rest v c → (u : ℕ) × Comes es rest v u
-  comes es rest v c (stack_full u m h) = (u, m)
-  comes es rest v c (key_area_full u m h i) = (u, m)
-  comes es rest v c (path_too_large u m h i j) = (u, m)
-  comes es rest v c (total_too_large u m n e later p d h) = (u, m)
-  comes es rest v c (count_full u m n e later p d h i) = (u, m)
+  comes es rest v c (u, m, s) = (u, m)
 
-  -- a path that can be entered is no reason, unless it is the key of an entry that stops
+  -- a path that fits is no reason, unless it is the key of an entry that stops
   no_reason : (es rest : List (Entry S)) (v : Bytes) (c : ℕ) → Why es rest v c → ((u : ℕ) → Comes es rest v u → PathFits rows bytes v u) →
       ((e : Entry S) (later : List (Entry S)) → rest ≡ e ∷ later → v ≡ e.key → (e.total ≤ most) × (length es < most_keys)) → ⊥
-  no_reason es rest v c (stack_full u m h) a b = let n = (a u m).row_free in omega arith
-  no_reason es rest v c (key_area_full u m h i) a b = let n = (a u m).byte_free in omega arith
-  no_reason es rest v c (path_too_large u m h i j) a b = let n = (a u m).sum_fits in omega arith
-  no_reason es rest v c (total_too_large u m n e later p d h) a b = let z = (b e later p d).0 in omega arith
-  no_reason es rest v c (count_full u m n e later p d h i) a b = let z = (b e later p d).1 in omega arith
+  no_reason es rest v c (u, m, s) a b = go s
+    where
+      go : {c : ℕ} → Stops rows bytes (length es) rest v u c → ⊥
+      go (stack_full h) = let n = (a u m).room.row_free in omega arith
+      go (key_area_full h i) = let n = (a u m).room.byte_free in omega arith
+      go (path_too_large h i) = let n = (a u m).sum_fits in omega arith
+      go (total_too_large h t (r, later, p) i) = let z = (b (record { key = v; total = t; state = r }) later p refl).0 in omega arith
+      go (count_full h t (r, later, p) i j) = let z = (b (record { key = v; total = t; state = r }) later p refl).1 in omega arith
 
   module _ (es fs rest more : List (Entry S)) (v w : Bytes) (c d : ℕ) (whole : Lists g f lo hi (es ++ rest)) (same : es ++ rest ≡ fs ++ more) (why : Why es rest v c) (other : Why fs more w d)
       (fitting : (e : Entry S) → e ∈ fs → (e.key ≺ w) × (e.total ≤ most)) (few : length fs ≤ most_keys) where
     not_before : v ≺ w → ⊥
     not_before t = no_reason es rest v c why
-        (λ u m. (second.1.before v u m.path tt t).0)
+        (λ u m. (second.1.passed v u m.path tt t).0)
         (λ e later p q. handed e later p q (in_either e fs more (subst (λ (l : List (Entry S)). e ∈ l) same (in_right e es rest (subst (λ (l : List (Entry S)). e ∈ l) (sym p) (inl refl))))))
       where
         second : (u : ℕ) × Comes fs more w u
@@ -111,7 +110,7 @@ module _ {S : Type 0} (g : Table) (f : Filter S) (lo hi : BoundValue) (law : Law
   not_both : (n c : ℕ) → CountsList g f lo hi rows bytes n → CannotCount g f lo hi rows bytes c → ⊥
   not_both n c a (not_opened b) = a.opens c b
   not_both n c a (stopped fine es rest v l b k r) = no_reason es rest v c r
-      (λ u m. a.passes.enterable v u m.path tt (λ w s en q t. (m.before w s en tt t).1))
+      (λ u m. a.fit v u m.path tt (λ w s en q t. (m.passed w s en tt t).1))
       (λ e later p q. (
         a.totals_fit e (subst (λ (z : List (Entry S)). e ∈ z) same (in_right e es rest (subst (λ (z : List (Entry S)). e ∈ z) (sym p) (inl refl)))),
         (let i = ap length same in let j = length-append es rest in let h = ap length p in let o = a.few in omega arith),

@@ -1,5 +1,6 @@
 //! Counting what a search lists, from the promises of its calls alone.
 ghost use Rattle.std.specs.Prelude.{IfOk, IfErr, length};
+ghost use Rattle.law.specs.Open.{open_of};
 ghost use Rattle.search.specs.Numbers.{number_of};
 ghost use Rattle.search.specs.Queries.{bounds_of};
 ghost use Rattle.own_graph.specs.Counting.{Counts, counted_by, CountsList, CannotCount, CountDetermined};
@@ -18,7 +19,8 @@ pub fn count_listed<G: Graph, A: Automaton>(
     key_area: &mut [u8],
 ) -> Result<u32, Refusal>
     ensures run { let b = bounds_of query.entry in
-        Counts (G.table graph.now) (A.table filter.now) b.lower b.upper rows.old key_area.old (counted_by result) rows.new key_area.new }
+        let o = open_of (G.table graph.now) (A.table filter.now) b.lower b.upper rows.old key_area.old in
+        Counts (G.table graph.now) (A.table filter.now) o (counted_by result) rows.new key_area.new }
     ensures counted { let b = bounds_of query.entry in
         IfOk result (CountsList (G.table graph.now) (A.table filter.now) b.lower b.upper (length rows.old) (length key_area.old)) }
     ensures refused { let b = bounds_of query.entry in
