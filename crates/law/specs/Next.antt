@@ -1,4 +1,4 @@
--- `next`, `key` and `close` on values: what they answer and what they leave. Assumes nothing.
+-- `next` and `key` on values: what they answer and what they leave. Assumes nothing.
 use Rattle.std.specs.Prelude.{◌≡◌, ℕ, zero, suc, ◌+◌, ◌-◌, Bool, cond, not, ◌&&◌, ◌||◌, List, [], ◌∷◌, ◌++◌, length, get_or, take, Some, None, Option, ◌==◌, nat_le, nat_lt, slice_index_or, slice_set}
 use Rattle.byte_strings.specs.Order.{Bytes}
 use Rattle.bound.specs.Value.{BoundValue}

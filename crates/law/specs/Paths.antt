@@ -10,7 +10,7 @@ use Rattle.law.specs.Entries.{Entry, ◌∈◌}
 use Rattle.law.specs.Values.{most, most_keys}
 
 module _ {S : Type 0} (g : Table) (f : Filter S) (lower : BoundValue) where
-  -- the filter can match before each step of v that leads to the lower bound or above it
+  -- each step of v to bytes that the lower bound lets in goes out from a state at which the filter can match
   abbrev pub LetThrough : Bytes → Type 0
   LetThrough v = (w : Bytes) (b : ℕ) (x : Bytes) → v ≡ w ++ (b ∷ x) → From lower (w ++ (b ∷ [])) →
       f.can_match (run f f.start w) ≡ true

@@ -1,4 +1,4 @@
-//! Counting what a search lists, from the promises of its calls alone.
+//! Counting what a search lists, from the public clauses of its calls and the theorems of `law`.
 ghost use Rattle.std.specs.Prelude.{IfOk, IfErr, length};
 ghost use Rattle.law.specs.Open.{open_of};
 ghost use Rattle.search.specs.Numbers.{number_of};

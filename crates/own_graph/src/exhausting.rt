@@ -1,4 +1,4 @@
-//! Callers that rest on the law of the search alone: counts of several searches, and a search that goes on where another stands.
+//! Callers that rest on the law of the search: counts of several searches, and a search that goes on where another stands.
 ghost use Rattle.std.specs.Prelude.{◌≡◌, IfOk, true};
 ghost use Rattle.law.specs.Theorems.{GivesNoEndState};
 ghost use Rattle.law.specs.Calls.{Opened};

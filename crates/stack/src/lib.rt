@@ -4,9 +4,9 @@
 ghost use Rattle.std.specs.Prelude.{◌≡◌, ◌-◌, length, nat_le, nat_lt, slice_set};
 ghost use Rattle.stack.specs.Stacks.{top_of, with_top, depth_after};
 
-/// A stack that holds only how many rows are in use: the first so many of those provided.
+/// A stack that holds only how many rows are in use: the first of those provided.
 // Any number will do, since no call asks for a row to be there.
-#[derive(Debug, Default, PartialEq, Eq, Drop)]
+#[derive(Debug, Drop)]
 pub struct Stack {
     pub depth: usize,
 }
