@@ -10,7 +10,8 @@ use graph::Graph;
 use search::{Query, Refusal, Row};
 
 /// The number of accepted keys within the bounds of a query, over any graph and any filter.
-/// Refused with the reason of the opening, or of the path that stops the search.
+/// Refused as `Query::open` (14 to 16), or as the first `Search::next` that is refused (14 to 17). Rows and key bytes are left as
+/// the last of these calls leaves them.
 pub fn count_listed<G: Graph, A: Automaton>(
     query: Query<'_>,
     graph: &G,
