@@ -17,6 +17,9 @@ mod asked;
 mod listing;
 mod printing;
 mod refusal;
+mod streams;
+
+pub use streams::{StreamError, write_account};
 
 /// Adds the account of an input, but for the line of a refusal.
 fn push_account(out: &mut Vec<u8>, input: &[u8]) -> Result<(), AccountError>
