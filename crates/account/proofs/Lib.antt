@@ -8,3 +8,4 @@ mod Telling
 mod Openings
 mod Going
 mod Tables
+mod Written

@@ -7,3 +7,4 @@ pub mod Tables
 pub mod Searches
 pub mod Steps
 pub mod Law
+pub mod Written

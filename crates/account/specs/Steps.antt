@@ -1,8 +1,10 @@
 -- The steps of an account. Assumes nothing.
-use Rattle.std.specs.Prelude.{◌≡◌, List, ◌++◌, Some, None, Ok, Err, Result}
+use Rattle.std.specs.Prelude.{◌≡◌, ℕ, List, ◌++◌, Some, None, Ok, Err, Result}
 use Rattle.byte_strings.specs.Order.{Bytes}
 use Rattle.filter.specs.Filter.{Filter}
 use Rattle.graph.specs.Table.{Table}
+use Rattle.graph.specs.Shifted.{shifted, RaisesTotals}
+use Rattle.graph.specs.declared.shift.Shift.{Shift}
 use Rattle.names.specs.declared.name.Name.{Name}
 use Rattle.names.specs.Names.{names_of}
 use Rattle.names.specs.Refusals.{refusal_of as refusal_of_list}
@@ -17,6 +19,7 @@ use Rattle.account.specs.declared.refusal.AccountError.{AccountError}
 use Rattle.account.specs.declared.refusal.AccountError.TheVariants.{Refused, OutOfMemory}
 use Rattle.account.specs.Numbers.{number_of}
 use Rattle.account.specs.Refusals.{bound_refusal}
+use Rattle.account.specs.Tables.{graph_table}
 use Rattle.account.specs.Account.{refused_line, unless_refused}
 use Rattle.account.specs.Searches.{Searches}
 
@@ -32,6 +35,11 @@ OpensList text rows (Ok l) = (None ≡ refusal_of_list text rows) × Holds (name
 OpensList text rows (Err (Refused (ListRefused e))) = Some e ≡ refusal_of_list text rows
 OpensList text rows (Err (Refused e)) = ⊥
 OpensList text rows (Err OutOfMemory) = Unit {0}
+
+-- the list with its totals raised by a number: the sum always fits
+abbrev pub ShiftsList : Opened → ℕ → Result (Shift Opened) AccountError → Type 0
+ShiftsList l by (Ok s) = (graph_table s ≡ shifted (prefix_table (names_in l)) by) × RaisesTotals (prefix_table (names_in l)) (graph_table s) by
+ShiftsList l by (Err e) = ⊥
 
 -- the lines are printed after those before, and where a refusal ends them, all but its line
 abbrev pub Prints : Bytes → Result (Unit {0}) AccountError → Bytes → Bytes → Type 0

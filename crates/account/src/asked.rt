@@ -1,12 +1,8 @@
 //! What is asked for, as a graph, a filter and a query.
 ghost use Rattle.std.specs.Prelude.{◌≡◌, length};
 ghost use Rattle.bound.specs.Value.{value_of};
-ghost use Rattle.graph.specs.Shifted.{shifted, RaisesTotals};
-ghost use Rattle.prefixes.specs.Prefixes.{prefix_table};
-ghost use Rattle.list.specs.Opened.{names_in};
 ghost use Rattle.search.specs.Queries.{bounds_of};
-ghost use Rattle.account.specs.Tables.{graph_table};
-ghost use Rattle.account.specs.Steps.{OpensList};
+ghost use Rattle.account.specs.Steps.{OpensList, ShiftsList};
 
 use crate::refusal::AccountError;
 use automaton::{
@@ -39,11 +35,10 @@ pub(crate) fn list_of(heap: Global, text: &[u8], rows: Vec<Name>) -> Result<List
 }
 
 /// The list with its totals raised by a number: its first total is 0, so that the sum fits.
-pub(crate) fn shifted(list: List, by: u64) -> Shift<List>
-    ensures table { graph_table result ≡ shifted (prefix_table (names_in list)) by }
-    ensures keys { RaisesTotals (prefix_table (names_in list)) (graph_table result) by }
+pub(crate) fn shifted(list: List, by: u64) -> Result<Shift<List>, AccountError>
+    ensures { ShiftsList list by result }
 {
-    Shift::new(list, by).unwrap()
+    Ok(Shift::new(list, by)?)
 }
 
 /// The names that begin with the prefix and hold the bytes of the subsequence in order.

@@ -17,6 +17,9 @@ mod asked;
 mod listing;
 mod printing;
 mod refusal;
+mod streams;
+
+pub use streams::{StreamError, write_account};
 
 /// Adds the account of an input, but for the line of a refusal.
 fn push_account(out: &mut Vec<u8>, input: &[u8]) -> Result<(), AccountError>
@@ -32,9 +35,10 @@ fn push_account(out: &mut Vec<u8>, input: &[u8]) -> Result<(), AccountError>
         names,
     } = read(*out.allocator(), input)?;
     let list = list_of(*out.allocator(), text, names)?;
+    let graph = shifted(list, shift)?;
     let query = query_of(lower, upper);
     let filter = filter_of(prefix, subsequence);
-    push_lines(out, query, &shifted(list, shift), &filter)
+    push_lines(out, query, &graph, &filter)
 }
 
 /// The account of an input: the bytes that a listing prints, or want of memory.

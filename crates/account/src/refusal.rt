@@ -1,11 +1,13 @@
 //! Why an account ends early.
 ghost use Rattle.std.specs.Prelude.{◌≡◌};
-ghost use Rattle.account.specs.declared.refusal.Refusal.TheVariants.{List, BoundTooLong, SumTooLarge};
+ghost use Rattle.account.specs.declared.refusal.Refusal.TheVariants.{List as ListRefused, Shift as ShiftRefused, BoundTooLong, SumTooLarge};
 ghost use Rattle.account.specs.declared.refusal.AccountError.TheVariants.{Refused, OutOfMemory};
 ghost use Rattle.account.specs.Numbers.{number_of};
 ghost use Rattle.account.specs.Errors.{error_of};
 
+use graph::Unshifted;
 use input::ReadError;
+use list::List;
 use search::Unopened;
 use std::alloc::AllocError;
 use std::io;
@@ -17,6 +19,8 @@ pub(crate) enum Refusal {
     Input(input::Refusal),
     /// The names are no list.
     List(names::Refusal),
+    /// The totals of the list cannot be raised.
+    Shift(graph::Refusal),
     /// The lower bound needs more than 256 rows.
     BoundTooLong,
     /// The total of a listed name passes 64 bits.
@@ -28,10 +32,11 @@ impl Refusal {
     pub(crate) fn number(self) -> u8
         ensures { result ≡ number_of self }
     {
-        // no cast: two of the cases carry a refusal with a number of its own
+        // no cast: some of the cases carry a refusal with a number of its own
         match self {
             Refusal::Input(refusal) => refusal.number(),
             Refusal::List(refusal) => refusal.number(),
+            Refusal::Shift(refusal) => refusal.number(),
             Refusal::BoundTooLong => 14,
             Refusal::SumTooLarge => 16,
         }
@@ -55,7 +60,7 @@ impl From<Refusal> for AccountError {
 }
 
 impl From<names::Refusal> for AccountError {
-    ghost from_gives = { λ refusal e. e ≡ Refused (List refusal) };
+    ghost from_gives = { λ refusal e. e ≡ Refused (ListRefused refusal) };
 
     fn from(refusal: names::Refusal) -> AccountError {
         AccountError::Refused(Refusal::List(refusal))
@@ -70,6 +75,14 @@ impl From<ReadError> for AccountError {
             ReadError::Refused(refusal) => AccountError::Refused(Refusal::Input(refusal)),
             ReadError::OutOfMemory => AccountError::OutOfMemory,
         }
+    }
+}
+
+impl From<Unshifted<List>> for AccountError {
+    ghost from_gives = { λ unshifted e. e ≡ Refused (ShiftRefused unshifted.refusal) };
+
+    fn from(unshifted: Unshifted<List>) -> AccountError {
+        AccountError::Refused(Refusal::Shift(unshifted.refusal))
     }
 }
 

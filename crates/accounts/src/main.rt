@@ -3,6 +3,9 @@
 
 ghost use Rattle.std.specs.Prelude.{◌<◌};
 
+#[cfg(test)]
+mod tests;
+
 use account::account;
 use std::alloc::{AllocError, Global};
 use std::fmt::Write;

@@ -31,15 +31,15 @@ impl TryFrom<u8> for Kind {
     ghost try_from_gives = { Says };
 
     fn try_from(first: u8) -> Result<Kind, Refusal> {
-        match first {
-            b'G' => Ok(Kind::Ge),
-            b'g' => Ok(Kind::Gt),
-            b'L' => Ok(Kind::Le),
-            b'l' => Ok(Kind::Lt),
-            b'P' => Ok(Kind::Prefix),
-            b'S' => Ok(Kind::Subsequence),
-            b'B' => Ok(Kind::Shift),
-            b'+' => Ok(Kind::Name),
+        match char::from(first) {
+            'G' => Ok(Kind::Ge),
+            'g' => Ok(Kind::Gt),
+            'L' => Ok(Kind::Le),
+            'l' => Ok(Kind::Lt),
+            'P' => Ok(Kind::Prefix),
+            'S' => Ok(Kind::Subsequence),
+            'B' => Ok(Kind::Shift),
+            '+' => Ok(Kind::Name),
             _ => Err(Refusal::BadLine),
         }
     }

@@ -14,7 +14,7 @@ returns-in_err-list c =
 pub returns : goal.returns
 returns c =
     let i = c.in_ok-text.field-0 in
-    let s = searches i c.in_ok-list.list c.shifted.result c.filter_of-filter.result _ _ (ap (λ b. b.lower) c.query_of-query.ensures) (ap (λ b. b.upper) c.query_of-query.ensures)
-    c.in_ok-list.ensures.1 c.shifted.ensures.table c.shifted.ensures.keys c.filter_of-filter.ensures.prefix c.filter_of-filter.ensures.subsequence (grind arith) in
+    let s = searches i c.in_ok-list.list c.in_ok-graph.graph c.filter_of-filter.result _ _ (ap (λ b. b.lower) c.query_of-query.ensures) (ap (λ b. b.upper) c.query_of-query.ensures)
+    c.in_ok-list.ensures.1 c.in_ok-graph.ensures.0 c.in_ok-graph.ensures.1 c.filter_of-filter.ensures.prefix c.filter_of-filter.ensures.subsequence (grind arith) in
     subst (λ lines. Prints lines c.push_lines.result c.args.out.now.items c.push_lines.new.out.items)
     (sym (list_accepted c.args.input.now i c.in_ok-text.ensures.0 c.in_ok-list.ensures.0)) (c.push_lines.ensures (asked_of i) s)
