@@ -12,6 +12,7 @@ use super::refusal::Refusal;
 
 impl Catalogue {
     /// The file as a graph, or its first refusal.
+    /// The table in the clauses is the one by which the catalogue answers as a graph.
     pub fn open(bytes: Vec<u8>) -> Result<Catalogue, Refusal>
         ensures answer { result_err result ≡ refusal_of (file_of bytes.items) }
         ensures accepted { (is_ok result ≡ true) ↔ WellFormed (file_of bytes.items) }

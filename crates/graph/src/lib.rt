@@ -3,6 +3,7 @@
 
 ghost use Rattle.std.specs.Prelude.{◌≡◌};
 ghost use Rattle.graph.specs.Table.{Table, Lawful, Finds};
+ghost use Rattle.graph.specs.Paths.{LawfulHasOneTotal};
 
 mod refusal;
 mod shift;
@@ -55,3 +56,9 @@ pub trait Graph {
 
     ghost lawful: { (g : Self) → Lawful (table g) };
 }
+
+/// Theorem: over every lawful table bytes lead from a node to one node with one total, and a key has one total.
+#[tactic(auto, using(crate::proofs::Paths::key_has_one_path_and_one_total))]
+pub fn key_has_one_path_and_one_total()
+    ensures { LawfulHasOneTotal }
+{}

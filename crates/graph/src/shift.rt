@@ -2,7 +2,6 @@
 ghost use Rattle.std.specs.Prelude.{◌≡◌, ◌^◌, ◌<◌, ◌≤◌, IfOk, IfErr, MatchResult};
 ghost use Rattle.graph.specs.Numbers.{number_of};
 ghost use Rattle.graph.specs.Shifted.{with_first_total, raised_total, shifted, RaisesTotals};
-ghost use Rattle.graph.specs.Paths.{LawfulHasOneTotal};
 ghost use Rattle.graph.specs.Shifts.{with_first_total_lawful};
 
 use crate::refusal::Refusal;
@@ -24,14 +23,15 @@ pub struct Unshifted<G> {
 
 impl<G: Graph> Shift<G> {
     /// The graph with its first total raised by a number, or handed back where the sum does not fit.
-    /// Its keys are the graph's, at the same nodes, with their totals raised. A key of a lawful graph has one path and one total.
-    #[tactic(auto, using(crate::specs::Shifts::raises_totals_since, crate::proofs::Paths::key_has_one_path_and_one_total))]
+    /// Its keys are the graph's, at the same nodes, with their totals raised.
+    /// The table in the clauses, `with_first_total` of the graph's, is the one by which the shift answers as a graph.
+    #[tactic(auto, using(crate::specs::Shifts::raises_totals_since))]
     pub fn new(graph: G, by: u64) -> Result<Shift<G>, Unshifted<G>>
         ensures accepted { IfOk result (λ s. (s.graph ≡ graph) × (with_first_total (G.Graph.table s.graph) s.first_total ≡ shifted (G.Graph.table graph) by)) }
-        ensures decided { MatchResult result (λ _. raised_total (G.Graph.table graph) by < 2 ^ 64) (λ _. 2 ^ 64 ≤ raised_total (G.Graph.table graph) by) }
+        ensures fits { MatchResult result (λ _. raised_total (G.Graph.table graph) by < 2 ^ 64)
+            (λ _. 2 ^ 64 ≤ raised_total (G.Graph.table graph) by) }
         ensures refused { IfErr result (λ u. (u.graph ≡ graph) × (number_of u.refusal ≡ 12)) }
         ensures keys { IfOk result (λ s. RaisesTotals (G.Graph.table graph) (with_first_total (G.Graph.table s.graph) s.first_total) by) }
-        ensures one_total { LawfulHasOneTotal }
     {
         // no `ok_or`: the graph goes into one of the two answers
         let Some(first_total) = graph.first_total().checked_add(by) else {

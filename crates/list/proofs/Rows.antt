@@ -11,7 +11,9 @@ use Rattle.names.specs.declared.name.Name.{Name}
 use Rattle.names.specs.Names.{cut, blank, bytes_of}
 use Rattle.prefixes.specs.Prefixes.{name_at, prefix_table}
 use Rattle.prefixes.specs.Keys.{KeysAreTheNames, PathsAreThePrefixes}
+use Rattle.prefixes.specs.Nodes.{NodesAreThePrefixes}
 use Rattle.prefixes.proofs.Keys.{keys_are_the_names, paths_are_the_prefixes}
+use Rattle.prefixes.proofs.NodePrefixes.{nodes_are_the_prefixes}
 use Rattle.prefixes.specs.Walks.{byte_at}
 use Rattle.prefixes.proofs.RisingNames.{names_count, name_is}
 use Rattle.list.specs.declared.list.List.{List as Opened}
@@ -93,10 +95,13 @@ pub name_or_nothing : (ns : List Bytes) (i : ℕ) (o : Option (Bor Bytes)) (d : 
 name_or_nothing ns i None d e h = e ∙ ap (λ r. unwrap_or r []) h ∙ unwrap_or-slice_get ns i []
 name_or_nothing ns i (Some a) d e h = ap (λ r. unwrap_or r []) h ∙ unwrap_or-slice_get ns i []
 
--- the keys and the paths of an opened list
+-- the keys, the paths and the nodes of an opened list
 module _ (l : Opened) (ns : List Bytes) (e : names_in l ≡ ns) where
   pub keys_since : KeysAreTheNames (prefix_table (names_in l)) ns
   keys_since = subst (λ (m : List Bytes). KeysAreTheNames (prefix_table (names_in l)) m) e (keys_are_the_names (names_in l) (names_rise l))
 
   pub paths_since : PathsAreThePrefixes (prefix_table (names_in l)) ns
   paths_since = subst (λ (m : List Bytes). PathsAreThePrefixes (prefix_table (names_in l)) m) e (paths_are_the_prefixes (names_in l) (names_rise l))
+
+  pub nodes_since : NodesAreThePrefixes (prefix_table (names_in l)) ns
+  nodes_since = subst (λ (m : List Bytes). NodesAreThePrefixes (prefix_table (names_in l)) m) e (nodes_are_the_prefixes (names_in l) (names_rise l))

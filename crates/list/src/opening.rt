@@ -9,6 +9,7 @@ ghost use Rattle.names.specs.Refusals.{refusal_of};
 ghost use Rattle.names.specs.Rising.{Rising, Refused};
 ghost use Rattle.prefixes.specs.Prefixes.{name_at, prefix_table};
 ghost use Rattle.prefixes.specs.Keys.{KeysAreTheNames, PathsAreThePrefixes};
+ghost use Rattle.prefixes.specs.Nodes.{NodesAreThePrefixes};
 ghost use Rattle.list.specs.Opened.{rows_in, names_in};
 
 use crate::list::List;
@@ -25,8 +26,10 @@ pub struct Parts {
 
 impl List {
     /// The list of the names that rows cut out of a text, or why they are none.
-    /// Its keys are exactly the names, and the total of name i is i.
-    #[tactic(auto, using(crate::proofs::Rows::keys_since, crate::proofs::Rows::paths_since))]
+    /// Its keys are exactly the names, and the total of name i is i. Its nodes are the prefixes of the names: node 256 × i + d is
+    /// the prefix of d bytes of name i, where no lower name begins with it.
+    /// The table in the clauses is the one by which the list answers as a graph.
+    #[tactic(auto, using(crate::proofs::Rows::keys_since, crate::proofs::Rows::paths_since, crate::proofs::Rows::nodes_since))]
     pub fn open(text: Vec<u8>, rows: Vec<Name>) -> Result<List, Refusal>
         ensures answer { result_err result ≡ refusal_of text.items rows.items }
         ensures accepted { (is_ok result ≡ true) ↔ Rising text.items rows.items }
@@ -35,6 +38,8 @@ impl List {
         ensures names { IfOk result (λ l. names_in l ≡ names_of text.items rows.items) }
         ensures keys { IfOk result (λ l. KeysAreTheNames (prefix_table (names_in l)) (names_of text.items rows.items)) }
         ensures paths { IfOk result (λ l. PathsAreThePrefixes (prefix_table (names_in l)) (names_of text.items rows.items)) }
+        ensures nodes { IfOk result (λ l. NodesAreThePrefixes
+            (prefix_table (names_in l)) (names_of text.items rows.items)) }
     {
         check(text.as_slice(), rows.as_slice())?;
         Ok(List::marked(text, rows))

@@ -4,6 +4,7 @@ pub mod BytesAfter
 pub mod Nodes
 pub mod Laws
 pub mod Keys
+pub mod NodePrefixes
 pub mod Divided
 pub mod Stands
 pub mod Shared
