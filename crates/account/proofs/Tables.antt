@@ -1,9 +1,9 @@
 -- The graph and the filter that an account searches, and what they search for. Assumes nothing.
-use Rattle.std.proofs.Common.{◌≡◌, ◌≤◌, false, vec_items, refl, sym, subst, arith}
+use Rattle.std.proofs.Common.{◌≡◌, ◌≤◌, vec_items, refl, sym, subst, arith}
 use Rattle.byte_strings.specs.Order.{Bytes}
 use Rattle.bound.specs.Value.{BoundValue, value_of}
 use Rattle.filter.specs.Filter.{Lawful as LawfulFilter}
-use Rattle.filter.proofs.Lawful.{str_table_lawful, subsequence_table_lawful, starts_with_table_lawful, pair_table_lawful}
+use Rattle.filter.proofs.Lawful.{str_table_lawful, subsequence_table_lawful, starts_with_table_lawful, intersection_table_lawful}
 use Rattle.filter.proofs.StrMeaning.{str_table_means_since}
 use Rattle.filter.proofs.SubsequenceMeaning.{subsequence_table_means}
 use Rattle.filter.proofs.CombinatorMeanings.{starts_with_table_means, intersection_table_means}
@@ -13,7 +13,7 @@ use Rattle.graph.specs.Table.{Lawful}
 use Rattle.graph.specs.Shifted.{shifted, RaisesTotals}
 use Rattle.graph.specs.Shifts.{with_first_total_lawful}
 use Rattle.graph.specs.declared.shift.Shift.{Shift}
-use Rattle.automaton.specs.declared.filters.pair.Pair.{Pair}
+use Rattle.automaton.specs.declared.filters.intersection.Intersection.{Intersection}
 use Rattle.automaton.specs.declared.filters.starts_with.StartsWith.{StartsWith}
 use Rattle.automaton.specs.declared.filters.str.Str.{Str}
 use Rattle.automaton.specs.declared.filters.subsequence.Subsequence.{Subsequence}
@@ -35,17 +35,17 @@ use Rattle.account.proofs.Searches.{searches_since}
 pub lawful_graph : (s : Shift Opened) → Lawful (graph_table s)
 lawful_graph s = with_first_total_lawful _ s.first_total (prefix_table_is_lawful (names_in s.graph) (names_rise s.graph))
 
-pub lawful_filter : (f : Pair (StartsWith Str) Subsequence 0) → LawfulFilter (filter_table f)
-lawful_filter f = pair_table_lawful _ _ false (starts_with_table_lawful _ (str_table_lawful f.left.filter.bytes.now)) (subsequence_table_lawful f.right.bytes.now)
+pub lawful_filter : (f : Intersection (StartsWith Str) Subsequence) → LawfulFilter (filter_table f)
+lawful_filter f = intersection_table_lawful _ _ (starts_with_table_lawful _ (str_table_lawful f.left.filter.bytes.now)) (subsequence_table_lawful f.right.bytes.now)
 
 -- it means the names with the prefix p and the subsequence q
-means_since : (f : Pair (StartsWith Str) Subsequence 0) (p q : Bytes) → f.left.filter.bytes.now ≡ p → f.right.bytes.now ≡ q
+means_since : (f : Intersection (StartsWith Str) Subsequence) (p q : Bytes) → f.left.filter.bytes.now ≡ p → f.right.bytes.now ≡ q
     → Means (filter_table f) (IntersectionOf (StartingWith (EqualTo p)) (SubsequenceOf q)) (IntersectionOf (StartingWith (EqualTo p)) (SubsequenceOf q))
 means_since f p q d e =
     intersection_table_means _ _ _ _ _ _ (starts_with_table_means _ _ _ (str_table_means_since p f.left.filter.bytes.now d))
     (subst (λ u. Means (subsequence_table f.right.bytes.now) (SubsequenceOf u) (SubsequenceOf u)) e (subsequence_table_means f.right.bytes.now))
 
-pub searches : (i : Input) (l : Opened) (s : Shift Opened) (f : Pair (StartsWith Str) Subsequence 0) (lower upper : BoundValue)
+pub searches : (i : Input) (l : Opened) (s : Shift Opened) (f : Intersection (StartsWith Str) Subsequence) (lower upper : BoundValue)
     → lower ≡ value_of i.lower → upper ≡ value_of i.upper
     → Holds (names_of i.text.now (vec_items i.names)) l
     → graph_table s ≡ shifted (prefix_table (names_in l)) i.shift → RaisesTotals (prefix_table (names_in l)) (graph_table s) i.shift

@@ -15,10 +15,11 @@ pub use filter::{PairState, StartsWithState};
 pub use filters::always_match::AlwaysMatch;
 pub use filters::closed::Closed;
 pub use filters::complement::Complement;
-pub use filters::pair::{Intersection, Pair, Union};
+pub use filters::intersection::Intersection;
 pub use filters::starts_with::StartsWith;
 pub use filters::str::Str;
 pub use filters::subsequence::Subsequence;
+pub use filters::union::Union;
 pub use verdict::{accepts, run, verdict_at};
 
 /// A filter. Its questions do not change it, and each has one answer, that of its table.

@@ -6,8 +6,9 @@ use Rattle.std.proofs.lemmas.List.Folds.{fold_stays}
 use Rattle.std.proofs.lemmas.List.Sums.{fold_push}
 use Rattle.filter.specs.declared.StartsWithState.TheVariants.{Done, Running}
 use Rattle.filter.specs.Filter.{Filter, run}
-use Rattle.filter.specs.Tables.{always_match_table, starts_with_table, starts_with_is_match, starts_with_accept, joined, pair_table, union_table, intersection_table, complement_table, closed_table, slash}
-use Rattle.filter.specs.Meanings.{Keys, Means, matches, AllKeys, StartingWith, UnionOf, IntersectionOf, PairOf, ComplementOf, FollowedBySlash}
+use Rattle.filter.specs.Tables.{always_match_table, starts_with_table, starts_with_is_match, starts_with_accept, union_table, intersection_table, complement_table, closed_table, slash}
+use Rattle.filter.specs.Meanings.{Keys, Means, matches, AllKeys, StartingWith, UnionOf, IntersectionOf, ComplementOf, FollowedBySlash}
+use Rattle.filter.proofs.Pairs.{joined, pair_table, PairOf}
 use Rattle.filter.proofs.Runs.{pair_run}
 use Rattle.filter.proofs.Verdicts.{matched_is_accepted}
 

@@ -8,7 +8,8 @@ use Rattle.filter.specs.declared.StartsWithState.{StartsWithState}
 use Rattle.filter.specs.declared.StartsWithState.TheVariants.{Done, Running}
 use Rattle.filter.specs.Filter.{Filter, Lawful, run}
 use Rattle.filter.specs.Tables.{str_table, str_is_match, str_accept, subsequence_table, always_match_table, slash}
-use Rattle.filter.specs.Tables.{starts_with_table, starts_with_is_match, starts_with_can_match, starts_with_accept, joined, pair_table, union_table, intersection_table, complement_table, closed_table}
+use Rattle.filter.specs.Tables.{starts_with_table, starts_with_is_match, starts_with_can_match, starts_with_accept, union_table, intersection_table, complement_table, closed_table}
+use Rattle.filter.proofs.Pairs.{joined, pair_table}
 use Rattle.filter.proofs.Runs.{subsequence_run_stays, pair_run}
 
 str_cannot_match : (t : List ℕ) (s : Option ℕ) (w : List ℕ) → is_some s ≡ false → str_is_match t (run (str_table t) s w) ≡ false

@@ -4,7 +4,8 @@ use Rattle.std.proofs.lemmas.Bool.{le-ltb}
 use Rattle.std.proofs.lemmas.List.Folds.{fold_stays}
 use Rattle.filter.specs.declared.PairState.{PairState}
 use Rattle.filter.specs.Filter.{Filter, run}
-use Rattle.filter.specs.Tables.{subsequence_table, subsequence_accept, pair_table, pair_state}
+use Rattle.filter.specs.Tables.{subsequence_table, subsequence_accept, pair_state}
+use Rattle.filter.proofs.Pairs.{pair_table}
 
 module _ {S R : Type 0} (join : Bool → Bool → Bool) (f : Filter S) (g : Filter R) where
   pub pair_run : (s : PairState S R) (w : List ℕ) → run (pair_table join f g) s w ≡ pair_state (run f s.left w) (run g s.right w)

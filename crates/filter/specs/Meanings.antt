@@ -40,11 +40,6 @@ UnionOf M N k = M k ⊎ N k
 abbrev pub IntersectionOf : Keys → Keys → Keys
 IntersectionOf M N k = M k × N k
 
--- the union of a pair that asks for a yes of any, or the intersection of one that asks for both
-abbrev pub PairOf : Bool → Keys → Keys → Keys
-PairOf true = UnionOf
-PairOf false = IntersectionOf
-
 abbrev pub ComplementOf : Keys → Keys
 ComplementOf M k = M k → ⊥
 

@@ -78,27 +78,27 @@ starts_with_table f = record {
 abbrev pub pair_state : {S R : Type 0} → S → R → PairState S R
 pair_state s r = record { left = s; right = r }
 
--- two filters side by side: the connective joins their answers
-abbrev pub pair_table : {S R : Type 0} → (Bool → Bool → Bool) → Filter S → Filter R → Filter (PairState S R)
-pair_table join f g = record {
+-- Union: both filters side by side, and the yes of one is enough
+abbrev pub union_table : {S R : Type 0} → Filter S → Filter R → Filter (PairState S R)
+union_table f g = record {
   start = pair_state f.start g.start;
-  is_match = λ s. join (f.is_match s.left) (g.is_match s.right);
-  can_match = λ s. join (f.can_match s.left) (g.can_match s.right);
-  will_always_match = λ s. join (f.will_always_match s.left) (g.will_always_match s.right);
+  is_match = λ s. f.is_match s.left || g.is_match s.right;
+  can_match = λ s. f.can_match s.left || g.can_match s.right;
+  will_always_match = λ s. f.will_always_match s.left || g.will_always_match s.right;
   accept = λ s b. pair_state (f.accept s.left b) (g.accept s.right b);
   end_state = λ _. None;
 }
 
-abbrev pub union_table : {S R : Type 0} → Filter S → Filter R → Filter (PairState S R)
-union_table f g = pair_table ◌||◌ f g
-
+-- Intersection: both filters side by side, and both have to say yes
 abbrev pub intersection_table : {S R : Type 0} → Filter S → Filter R → Filter (PairState S R)
-intersection_table f g = pair_table ◌&&◌ f g
-
--- the connective of a pair that asks for a yes of any, or of both
-abbrev pub joined : Bool → Bool → Bool → Bool
-joined true x y = x || y
-joined false x y = x && y
+intersection_table f g = record {
+  start = pair_state f.start g.start;
+  is_match = λ s. f.is_match s.left && g.is_match s.right;
+  can_match = λ s. f.can_match s.left && g.can_match s.right;
+  will_always_match = λ s. f.will_always_match s.left && g.will_always_match s.right;
+  accept = λ s b. pair_state (f.accept s.left b) (g.accept s.right b);
+  end_state = λ _. None;
+}
 
 abbrev pub complement_table : {S : Type 0} → Filter S → Filter S
 complement_table f = record {
