@@ -1,5 +1,5 @@
 -- What each call owes, from the law of the search. Assumes nothing.
-use Rattle.std.proofs.Common.{◌≡◌, ◌↔◌, ℕ, ◌+◌, Bool, true, false, eqb, Some, None, ◌⊎◌, List, [], ◌++◌, length, sym, refl, ap, ◌∙◌, subst, inl, inr, eq-eqb}
+use Rattle.std.proofs.Common.{◌≡◌, ℕ, ◌+◌, Bool, true, false, eqb, Some, None, ◌⊎◌, List, [], ◌++◌, length, sym, refl, ap, ◌∙◌, subst, inl, inr, eq-eqb}
 use Rattle.byte_strings.specs.Order.{Bytes}
 use Rattle.bound.specs.Value.{BoundValue}
 use Rattle.graph.specs.Table.{Table, Lawful}
@@ -8,7 +8,7 @@ use Rattle.law.specs.declared.Row.{Row}
 use Rattle.law.specs.Values.{Search, View, Answer, Part, Result, with_search, without_key, without_waiting, too_short, is_admitted}
 use Rattle.law.specs.Next.{next_of, key_of, walk, Walks}
 use Rattle.law.specs.Open.{open_of}
-use Rattle.law.specs.History.{History, opened, next, next_refused, given_out}
+use Rattle.law.specs.History.{opened, next, next_refused, given_out}
 use Rattle.law.specs.Theorems.{GoesOnElsewhere}
 use Rattle.law.specs.Calls.{NextLaw, NextEnds, KeyLaw, CloseLaw, UnionLaw, ComplementLaw, OpenLaw, Opened, OpenReason, Looked}
 use Rattle.law.proofs.Looks.{always_bounded}

@@ -4,7 +4,6 @@ use Rattle.std.proofs.lemmas.Bool.Decides.{nat_tests}
 use Rattle.std.specs.Ordering.{ordering_reverse}
 use Rattle.std.specs.declared.cmp.Ordering.{Ordering}
 use Rattle.bound.specs.Value.{BoundValue, bytes_of}
-use Rattle.bound.specs.Within.{To}
 use Rattle.byte_strings.specs.Order.{Bytes, order, ◌≺◌}
 use Rattle.byte_strings.proofs.Orders.{irreflexive, transitive, order_turned, equal_same}
 use Rattle.filter.specs.Filter.{Filter}

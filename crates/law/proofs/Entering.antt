@@ -1,9 +1,9 @@
 -- Paths of a search: their steps, and where they fit. Assumes nothing.
 use native.Mathlib.Decide.{dec_lt}
-use Rattle.std.proofs.Common.{◌≡◌, ◌≢◌, ℕ, ◌<◌, ◌≤◌, List, length, Bool, true, false, not, ◌||◌, ltb, T, ◌⊎◌, [], ◌∷◌, ◌++◌, sym, refl, ap, ◌∙◌, subst, inl, inr, append_assoc, append-nil, arith, ltb-false}
+use Rattle.std.proofs.Common.{◌≡◌, ◌≢◌, ℕ, ◌<◌, ◌≤◌, List, length, Bool, true, false, not, ◌||◌, ltb, T, ◌⊎◌, [], ◌∷◌, ◌++◌, sym, refl, ap, ◌∙◌, subst, inl, inr, append_assoc, arith, ltb-false}
 use Rattle.bound.specs.Value.{BoundValue}
-use Rattle.bound.specs.Within.{From, is_reached}
-use Rattle.byte_strings.specs.Order.{Bytes, ◌≺◌}
+use Rattle.bound.specs.Within.{is_reached}
+use Rattle.byte_strings.specs.Order.{Bytes}
 use Rattle.filter.specs.Filter.{Filter, run}
 use Rattle.graph.specs.Table.{Lawful, Table}
 use Rattle.law.specs.declared.Row.{Row}

@@ -1,5 +1,5 @@
 -- With spare enough, and totals and keys that fit, a search comes to its end. Assumes nothing.
-use Rattle.std.proofs.Common.{◌≡◌, ℕ, zero, suc, ◌+◌, ◌<◌, ◌≤◌, Bool, true, false, cond, eqb, List, [], ◌∷◌, ◌++◌, length, set, Some, None, Option, sym, refl, ap, ◌∙◌, subst, inl, append-nil, arith, length-append, length-set}
+use Rattle.std.proofs.Common.{◌≡◌, ℕ, zero, suc, ◌+◌, ◌≤◌, Bool, true, false, cond, eqb, List, [], ◌∷◌, ◌++◌, length, set, Some, None, Option, sym, refl, ap, ◌∙◌, subst, inl, arith, length-append, length-set}
 use Rattle.bound.specs.Value.{BoundValue}
 use Rattle.byte_strings.specs.Order.{Bytes}
 use Rattle.filter.specs.Filter.{Filter, Lawful as LawfulFilter, verdict_at}

@@ -1,5 +1,5 @@
 -- What was handed out, and what is still ahead. Assumes nothing.
-use Rattle.std.proofs.Common.{◌≡◌, ℕ, T, ◌⊎◌, List, [], ◌∷◌, ◌++◌, sym, refl, subst, inl, inr}
+use Rattle.std.proofs.Common.{◌≡◌, T, ◌⊎◌, List, [], ◌∷◌, ◌++◌, sym, refl, subst, inl, inr}
 use Rattle.bound.specs.Value.{BoundValue}
 use Rattle.bound.specs.Within.{is_reached}
 use Rattle.byte_strings.specs.Order.{Bytes, ◌≺◌}

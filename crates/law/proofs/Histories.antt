@@ -1,11 +1,9 @@
 -- The law of the search over every history, and what follows from it. Assumes nothing.
-use Rattle.std.proofs.Common.{◌≡◌, ℕ, ◌-◌, Bool, true, false, cond, List, [], ◌∷◌, ◌++◌, length, take, Option, sym, refl, ap, ◌∙◌, subst, append_assoc, append-nil, arith, le-ltb}
-use mathlib.Core.List.{append_cancel_left}
+use Rattle.std.proofs.Common.{◌≡◌, ℕ, ◌-◌, Bool, true, false, cond, List, [], ◌++◌, length, take, sym, refl, ap, ◌∙◌, subst, append-nil, arith, le-ltb}
 use Rattle.bound.specs.Value.{BoundValue}
-use Rattle.byte_strings.specs.Order.{Bytes}
 use Rattle.filter.specs.Filter.{Filter, Lawful as LawfulFilter}
 use Rattle.graph.specs.Table.{Lawful, Table}
-use Rattle.law.specs.Values.{Answer, End, Handed, NoPart, Refused, Search, Standing, View, too_short, with_search, without_key}
+use Rattle.law.specs.Values.{Answer, NoPart, Refused, Search, Standing, View, too_short, with_search, without_key}
 use Rattle.law.specs.Entries.{Entry, Lists}
 use Rattle.law.specs.Theorems.{Exhausted, ExhaustedListsAll, Explains, HandedOutIsFront, Owes}
 use Rattle.law.specs.Paths.{Follows, Place, at_start}
@@ -13,8 +11,7 @@ use Rattle.law.specs.Standing.{Awaited, StandsAt, ToCome}
 use Rattle.law.proofs.Places.{explains_by, place_left, serves_keeps_place}
 use Rattle.law.specs.History.{History, Serves, entries, given_out, key, key_refused, next, next_refused, opened}
 use Rattle.law.specs.Next.{key_of, next_of}
-use Rattle.law.proofs.Unique.{determined}
-use Rattle.law.proofs.Frame.{Frame, owed, none_owed}
+use Rattle.law.proofs.Frame.{owed}
 use Rattle.law.proofs.Walking.{Inv, next_well, serve}
 use Rattle.law.proofs.Opening.{open_well}
 

@@ -7,7 +7,6 @@ use Rattle.bound.specs.Value.{BoundValue, bytes_of, excluded, included, unbounde
 use Rattle.bound.specs.Within.{is_reached}
 use Rattle.byte_strings.specs.Order.{Bytes, ◌≺◌}
 use Rattle.filter.specs.Filter.{Filter}
-use Rattle.graph.specs.Keys.{Key}
 use Rattle.graph.specs.Table.{Lawful, Table}
 use Rattle.law.specs.Entries.{Belongs, Entry}
 use Rattle.law.proofs.Positions.{LeadsBy, Path, path_of}

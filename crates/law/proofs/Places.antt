@@ -1,14 +1,13 @@
 -- The paths to come named in another way, and areas that serve a search keep its place.
-use Rattle.std.proofs.Common.{◌≡◌, ℕ, ◌-◌, ◌↔◌, List, length, take, Option, sym, subst}
+use Rattle.std.proofs.Common.{ℕ, ◌↔◌, List, take, sym, subst}
 use Rattle.bound.specs.Value.{BoundValue}
-use Rattle.bound.specs.Within.{To}
-use Rattle.byte_strings.specs.Order.{Bytes, ◌≺◌}
+use Rattle.byte_strings.specs.Order.{Bytes}
 use Rattle.filter.specs.Filter.{Filter}
 use Rattle.graph.specs.Table.{Table}
 use Rattle.law.specs.Entries.{Entry}
-use Rattle.law.specs.Values.{Answer, End, Handed, Refused, Search, View, most_keys}
+use Rattle.law.specs.Values.{Answer, End, Handed, Refused, Search, View}
 use Rattle.law.specs.History.{Serves}
-use Rattle.law.specs.Paths.{PathOf, PathFits, Place, Follows, after, before, at_end, ComesTo, AllFit, HandsOut}
+use Rattle.law.specs.Paths.{PathOf, Place, Follows, after, before, at_end, ComesTo, AllFit, HandsOut}
 use Rattle.law.specs.Standing.{Awaited, StandsAt}
 use Rattle.law.specs.Theorems.{Explains}
 use Rattle.law.proofs.Walking.{pending_kept}

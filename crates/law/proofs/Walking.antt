@@ -7,11 +7,10 @@ use Rattle.graph.specs.Keys.{Key}
 use Rattle.graph.specs.Table.{Lawful, Table}
 use Rattle.law.specs.Values.{Answer, onward, End, Handed, Refused, Result, Search, View, at_depth, byte_at, handed_out, is_admitted, key_total, most, most_keys, too_short, with_search, without_key, without_waiting}
 use Rattle.law.specs.Entries.{Belongs, Entry, Lists, ◌∈◌}
-use Rattle.law.specs.Next.{Done, More, Move, Walks, begin, deeper, due, goes, grown, leads_nowhere, next_of, root_row, top_look, stops, walk, written}
+use Rattle.law.specs.Next.{Done, More, Move, Walks, begin, deeper, due, goes, leads_nowhere, next_of, root_row, top_look, stops, walk, written}
 use Rattle.law.specs.declared.Row.{Row}
 use Rattle.law.specs.History.{Serves, entries}
 use Rattle.bound.proofs.Words.{to_said}
-use Rattle.graph.specs.Keys.{Leads}
 use Rattle.law.proofs.Positions.{LeadsBy, Path, path_of, of_positions}
 use Rattle.law.proofs.Order.{admitted, upper_down, upper_of, reached_said, none_below}
 use Rattle.law.proofs.Outcomes.{Writes, Halts, rows_full, bytes_full, sum_large, total_large, no_count_left, Outcome, ended, removed, refused, beyond, given, passed, outcome, top}
@@ -24,7 +23,7 @@ use Rattle.byte_strings.proofs.Orders.{irreflexive, transitive}
 use Rattle.bound.specs.Within.{To}
 use mathlib.Core.List.{append_cancel_left}
 use borrow.Author.Tests.{eqb-false}
-use Rattle.law.specs.Paths.{LetThrough, PathOf, PathFits, ComesTo, NextIs, Stops, stack_full, key_area_full, path_too_large, total_too_large, count_full, Reason, before, after, at_end}
+use Rattle.law.specs.Paths.{LetThrough, PathOf, PathFits, ComesTo, NextIs, stack_full, key_area_full, path_too_large, total_too_large, count_full, Reason, before, after}
 use Rattle.law.specs.Standing.{Ahead, Coming, Awaited, ToCome, StandsAt}
 use Rattle.law.specs.Theorems.{Explains}
 use Rattle.law.proofs.Frame.{Frame, frame_same, frame_hand, owed, none_owed}

@@ -81,7 +81,7 @@ pub data OpenReason (g : Table) (lower : BoundValue) (rows bytes : ℕ) : ℕ �
   empty_key_too_large : HasRoom rows bytes (bytes_of lower) → bytes_of lower ≡ [] → From lower [] →
       (t : ℕ) → Key g [] t → most < t → OpenReason g lower rows bytes 16
 
--- an opened search: it begins its history with nothing handed out, and all paths that it enters are to come; there was no reason to refuse it
+-- an opened search begins its history with nothing handed out and all its paths to come, and there is no reason to refuse it
 pub record Opened {S : Type 0} (g : Table) (f : Filter S) (lower upper : BoundValue) (z : View S) : Type 0 where
   pub history : History g f lower upper z []
   pub stands : StandsAt g f lower z at_start

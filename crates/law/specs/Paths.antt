@@ -1,5 +1,5 @@
 -- The paths of a search, the places that it comes to among them, and why a call stops at one of them.
-use Rattle.std.specs.Prelude.{◌≡◌, ◌≢◌, ℕ, ◌<◌, ◌≤◌, true, ◌⊎◌, List, [], ◌∷◌, ◌++◌, length}
+use Rattle.std.specs.Prelude.{◌≡◌, ℕ, ◌<◌, ◌≤◌, true, ◌⊎◌, List, [], ◌∷◌, ◌++◌, length}
 use Rattle.byte_strings.specs.Order.{Bytes, ◌≺◌}
 use Rattle.bound.specs.Value.{BoundValue}
 use Rattle.bound.specs.Within.{From, To}
@@ -67,7 +67,7 @@ module _ {S : Type 0} (g : Table) (f : Filter S) (lower upper : BoundValue) (com
     pub passed : (w : Bytes) (s : ℕ) → PathOf g f lower w s → coming w → w ≺ v → PathFits rows bytes w s × To upper w
     pub owed : (e : Entry S) → e ∈ rest → (v ≡ e.key) ⊎ (v ≺ e.key)
 
-  -- every path to come fits, up to the first above the upper bound and with it
+  -- every path to come fits, up to the first that the upper bound keeps out, and this one too
   abbrev pub AllFit : Type 0
   AllFit = (v : Bytes) (u : ℕ) → PathOf g f lower v u → coming v →
       ((w : Bytes) (s : ℕ) → PathOf g f lower w s → coming w → w ≺ v → To upper w) → PathFits rows bytes v u
