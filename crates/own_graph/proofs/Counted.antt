@@ -1,13 +1,13 @@
 -- How a caller that counts goes on from call to call. Assumes nothing.
-use Rattle.std.proofs.Common.{◌≡◌, ◌≢◌, ℕ, suc, ◌+◌, ◌<◌, ◌≤◌, true, false, ◌⊎◌, List, [], ◌∷◌, ◌++◌, length, take, is_some, Some, None, Option, sym, refl, ap, ◌∙◌, subst, inl, inr, append-nil, arith, length-append, Less, Equal, Greater}
+use Rattle.std.proofs.Common.{◌≡◌, ◌≢◌, ℕ, suc, ◌+◌, ◌<◌, ◌≤◌, true, false, ◌⊎◌, List, [], ◌∷◌, ◌++◌, length, take, is_some, Some, None, Option, sym, refl, ap, ◌∙◌, subst, inl, inr, arith, length-append}
 use Rattle.byte_strings.specs.Order.{Bytes, ◌≺◌}
-use Rattle.byte_strings.proofs.Orders.{irreflexive, transitive}
+use Rattle.byte_strings.proofs.Orders.{transitive}
 use Rattle.bound.specs.Value.{BoundValue}
 use Rattle.bound.specs.Within.{To}
 use Rattle.graph.specs.Table.{Table, Lawful}
 use Rattle.filter.specs.Filter.{Filter, Lawful as LawfulFilter}
-use Rattle.law.specs.Entries.{Entry, Lists, ◌∈◌}
-use Rattle.law.specs.Values.{Search, View, Answer, Handed, End, Refused, Result, most, most_keys}
+use Rattle.law.specs.Entries.{Entry, ◌∈◌}
+use Rattle.law.specs.Values.{Search, View, Answer, Handed, End, Refused, most, most_keys}
 use Rattle.law.specs.declared.Row.{Row}
 use Rattle.law.specs.Next.{next_of}
 use Rattle.law.specs.Open.{Opening, open_of}
@@ -16,14 +16,14 @@ use Rattle.law.specs.Paths.{Place, at_start, after, Follows, PathOf, PathFits, C
 use Rattle.law.specs.Standing.{StandsAt}
 use Rattle.law.specs.Theorems.{Explains}
 use Rattle.law.specs.Calls.{NextLaw, GoesOn, CloseLaw, Opened, OpenReason}
-use Rattle.law.proofs.Unique.{determined, one_total}
-use Rattle.law.proofs.Members.{in_right, in_either, rises_across}
+use Rattle.law.proofs.Unique.{determined}
+use Rattle.law.proofs.Members.{in_right, in_either}
 use Rattle.law.proofs.Entering.{one_path_sum, fits_same, all_fits}
 use Rattle.law.proofs.Determinacy.{three_ways}
 use native.Mathlib.Decide.{ℕ_discrete}
 use Rattle.law.proofs.Kept.{listable}
 use Rattle.search.specs.Answers.{item_of}
-use Rattle.own_graph.specs.Counting.{Runs, ends, stops, hands, Counts, unopened, opened, view_after, CountsList, CannotCount, stopped}
+use Rattle.own_graph.specs.Counting.{Runs, ends, stops, hands, Counts, unopened, opened, CountsList, CannotCount, stopped}
 
 one_more : (n m : ℕ) → n ≤ most_keys → (n ≡ most_keys → ⊥) → m ≡ n + 1 → m ≤ most_keys
 one_more n m h e d = go (ℕ_discrete n most_keys)

@@ -1,11 +1,11 @@
 -- How a caller goes on to the end, and a second one above the first one's key. Assumes nothing.
-use Rattle.std.proofs.Common.{◌≡◌, ℕ, suc, ◌+◌, ◌<◌, true, false, List, [], ◌∷◌, ◌++◌, sym, length, is_some, Some, None, Option, refl, ap, ◌∙◌, subst, append-nil, arith, length-append}
+use Rattle.std.proofs.Common.{◌≡◌, ℕ, suc, ◌+◌, ◌<◌, true, false, List, [], ◌∷◌, ◌++◌, sym, length, is_some, Some, None, Option, refl, ap, ◌∙◌, subst, arith, length-append}
 use Rattle.bound.specs.Value.{BoundValue, unbounded, excluded}
 use Rattle.byte_strings.specs.Order.{Bytes}
 use Rattle.graph.specs.Table.{Table, Lawful}
 use Rattle.filter.specs.Filter.{Filter, Lawful as LawfulFilter}
 use Rattle.law.specs.Entries.{Entry, Lists}
-use Rattle.law.specs.Values.{View, Answer, Refused, Handed, Search, Part, Standing}
+use Rattle.law.specs.Values.{View, Answer, Handed, Search, Part, Standing}
 use Rattle.law.specs.History.{Serves, History, entries}
 use Rattle.law.specs.Paths.{Follows}
 use Rattle.law.specs.Theorems.{Exhausted, Explains}

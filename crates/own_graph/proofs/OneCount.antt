@@ -1,5 +1,5 @@
 -- What a count answers is determined. Assumes nothing.
-use Rattle.std.proofs.Common.{◌≡◌, ℕ, zero, suc, ◌+◌, ◌<◌, ◌≤◌, ◌⊎◌, List, [], ◌∷◌, ◌++◌, length, sym, refl, ap, ◌∙◌, subst, inl, inr, arith, length-append}
+use Rattle.std.proofs.Common.{◌≡◌, ℕ, ◌<◌, ◌≤◌, ◌⊎◌, List, [], ◌∷◌, ◌++◌, length, sym, refl, ap, ◌∙◌, subst, inl, inr, arith, length-append}
 use Rattle.byte_strings.specs.Order.{Bytes, ◌≺◌}
 use Rattle.byte_strings.proofs.Orders.{irreflexive, transitive}
 use Rattle.bound.specs.Value.{BoundValue}
@@ -7,12 +7,11 @@ use Rattle.graph.specs.Table.{Table, Lawful}
 use Rattle.filter.specs.Filter.{Filter}
 use Rattle.law.specs.Entries.{Entry, Lists, Rises, ◌∈◌}
 use Rattle.law.specs.Values.{most, most_keys}
-use Rattle.law.specs.Paths.{at_start, Follows, PathFits, ComesTo, NextIs, Stops, stack_full, key_area_full, path_too_large, total_too_large, count_full, Reason}
-use Rattle.law.specs.Calls.{OpenReason}
+use Rattle.law.specs.Paths.{at_start, Follows, PathFits, ComesTo, Stops, stack_full, key_area_full, path_too_large, total_too_large, count_full, Reason}
 use Rattle.law.proofs.Unique.{determined}
 use Rattle.law.proofs.Members.{in_right, in_either}
 use Rattle.law.proofs.Determinacy.{three_ways, one_reason, one_open_reason}
-use Rattle.own_graph.specs.Counting.{CountsList, CannotCount, not_opened, stopped, OneCount, CountDetermined}
+use Rattle.own_graph.specs.Counting.{CountsList, CannotCount, not_opened, stopped, CountDetermined}
 
 -- v is not after the key
 abbrev From : {S : Type 0} → Bytes → Entry S → Type 0

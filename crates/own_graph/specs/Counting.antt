@@ -1,5 +1,5 @@
 -- What a count owes: the run of the calls that it makes, and in words of the list its number, or why there is none.
-use Rattle.std.specs.Prelude.{◌≡◌, ℕ, ◌≤◌, ◌⊎◌, List, [], ◌++◌, length, Ok, Err, Result}
+use Rattle.std.specs.Prelude.{◌≡◌, ℕ, ◌≤◌, ◌⊎◌, List, ◌++◌, length, Ok, Err, Result}
 use Rattle.std.proofs.Common.{inl, inr}
 use Rattle.byte_strings.specs.Order.{Bytes, ◌≺◌}
 use Rattle.bound.specs.Value.{BoundValue}
@@ -9,7 +9,7 @@ use Rattle.law.specs.declared.Row.{Row}
 use Rattle.law.specs.Entries.{Entry, Lists, ◌∈◌}
 use Rattle.law.specs.Values.{Search, View, Handed, End, Refused, most, most_keys}
 use Rattle.law.specs.Next.{next_of}
-use Rattle.law.specs.Open.{Opening, open_of}
+use Rattle.law.specs.Open.{Opening}
 use Rattle.law.specs.Paths.{Follows, at_start, Reason, AllFit}
 use Rattle.law.specs.Calls.{OpenReason}
 use Rattle.search.specs.declared.refusal.Refusal.{Refusal}

@@ -1,10 +1,10 @@
-use Rattle.std.proofs.Common.{◌≡◌, true, sym, ap, ◌∙◌, subst, refl, ap₂}
+use Rattle.std.proofs.Common.{◌≡◌, ap, ◌∙◌, subst, refl}
 use Rattle.bound.specs.Value.{included, unbounded}
 use Rattle.filter.specs.Filter.{Filter}
 use Rattle.filter.specs.Tables.{complement_table, always_match_table}
 use Rattle.graph.specs.Table.{Table}
 use Rattle.law.specs.Values.{Search}
-use Rattle.search.specs.Queries.{Bounds, bounds_of}
+use Rattle.search.specs.Queries.{Bounds}
 use Rattle.search.specs.Views.{search_of}
 use Rattle.own_graph.specs.Exhausting.{IsExhausted}
 use Rattle.own_graph.proofs.exhausting.complements_agree.Goals as goal

@@ -1,7 +1,7 @@
-use Rattle.std.proofs.Common.{◌≡◌, sym, ap, ◌∙◌, refl, Ok, true, false, Option, ℕ, Some, None, is_some, Bool, not, subst, arith, [], cond}
+use Rattle.std.proofs.Common.{◌≡◌, ap, ◌∙◌, refl, Ok, true, false, Option, is_some, Bool, not, subst, arith, []}
 use Rattle.bound.specs.Value.{excluded, unbounded}
 use Rattle.law.specs.History.{History}
-use Rattle.search.specs.Queries.{Bounds, bounds_of}
+use Rattle.search.specs.Queries.{Bounds}
 use Rattle.search.specs.Views.{view_of, search_of}
 use Rattle.search.specs.Answers.{answer_of, part_by}
 use Rattle.own_graph.specs.Exhausting.{IsExhausted}

@@ -1,10 +1,8 @@
-use Rattle.std.proofs.Common.{Ok, Err, length, refl, sym, ◌∙◌, arith}
-use Rattle.std.proofs.lemmas.Result.{err_from_is_err_and}
-use Rattle.search.specs.Numbers.{number_of}
+use Rattle.std.proofs.Common.{Ok, refl, sym, ◌∙◌, arith}
 use Rattle.search.specs.Queries.{bounds_of}
 use Rattle.search.specs.Views.{view_of}
 use Rattle.search.specs.Answers.{answer_of}
-use Rattle.own_graph.proofs.Finished.{handed, finished}
+use Rattle.own_graph.proofs.Finished.{handed}
 use Rattle.own_graph.proofs.exhausting.exhaust.Goals as goal
 
 pub keys-smaller : goal.keys-smaller
