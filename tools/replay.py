@@ -1,9 +1,9 @@
 #!/usr/bin/env python3
 """Writes the input and the expected account of crates/replay (its files stdin and stdout).
 
-The cases and their answers come from recorded/searches.txt and recorded/drawn.txt, the answers of the original. This script
-writes each case's graph as a catalogue, by docs/FORMATS.md, and as names where a list of them has the same totals, and
-each filter word by word. Which cases are to differ by the rule of the empty key it works out from the meaning of filters
+The cases and their answers, and what filters answer at single states, come from recorded/, the answers of the original. This
+script writes each case's graph as a catalogue, by docs/FORMATS.md, and as names where a list of them has the same totals,
+and each filter word by word. Which cases are to differ by the rule of the empty key it works out from the meaning of filters
 (docs/SEARCH.md). It shares no code with the crates. Run from the repository's root.
 """
 import re
@@ -169,6 +169,12 @@ def cases():
         assert lines == [], path
 
 
+def questions():
+    """The keys, and for each filter its marks and its text."""
+    keys, *lines = open("recorded/answers.txt").read().splitlines()
+    return keys, [line.split(" ") for line in lines]
+
+
 COMPARED = """\
 compared: the key, the total and the state of each answer, the end, two calls behind it, and the count
 compared where the record has rows, after the opening and after each answer: the depth, the key bytes, a waiting total,
@@ -195,11 +201,15 @@ def main():
                 count[0] += 1
                 count[1] += kind == "rows"
                 count[2] += differs_by_rule(nodes, bounds, term)
+        keys, asked = questions()
+        for marks, filter_text in asked:
+            file.write(f"? {keys} {marks} {words(read_filter(filter_text)[0])}\n")
     with open("crates/replay/stdout", "w") as file:
         file.write(COMPARED)
         for graph_kind, (number, with_rows, by_rule) in counts.items():
             file.write(f"through a {graph_kind}: {number} cases, {with_rows} with rows\n  {number - by_rule} agree\n")
             file.write(f"  {by_rule} differ by the rule of the empty key\n  0 unexplained\n")
+        file.write(f"filters asked whether states match, can match, always will\n  {len(asked)} agree\n  0 unexplained\n")
         file.write("unexplained 0\n")
 
 

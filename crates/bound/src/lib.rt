@@ -1,9 +1,9 @@
 //! Bounds on keys. A bound holds the caller's bytes themselves.
 #![tactic(auto)]
 
-ghost use Rattle.std.specs.Prelude.{◌≡◌, true, ◌↔◌, [], ◌∷◌, ◌++◌};
-ghost use Rattle.bound.specs.Value.{value_of, bytes_of};
-ghost use Rattle.bound.specs.Within.{is_reached, is_exceeded, is_within, Within};
+ghost use Rattle.std.specs.Prelude.{◌≡◌, true, false, ◌↔◌, [], ◌∷◌, ◌++◌};
+ghost use Rattle.bound.specs.Value.{value_of, bytes_of, IsHeld};
+ghost use Rattle.bound.specs.Within.{is_reached, is_exceeded, is_within, From, To, Within};
 
 use byte_strings::{compare, compare_with_byte};
 
@@ -13,16 +13,18 @@ use byte_strings::{compare, compare_with_byte};
 pub enum Bound<'b> {
     /// Every key.
     Unbounded,
-    /// These bytes, and the keys beyond.
+    /// As a lower bound these bytes and the keys above them,
+    /// as an upper one these bytes and the keys below them.
     Included(&'b [u8]),
-    /// The keys beyond these bytes.
+    /// As a lower bound the keys above these bytes, as an upper one the keys below them.
     Excluded(&'b [u8]),
 }
 
 impl<'b> Bound<'b> {
-    /// The bytes of the bound; none of an absent one.
+    /// The bytes of the bound, as they were handed to it; none of an absent one.
     pub fn bytes(self) -> &'b [u8]
-        ensures { result.now ≡ bytes_of (value_of self.entry) }
+        ensures answer { result.now ≡ bytes_of (value_of self.entry) }
+        ensures held { IsHeld self.entry result }
     {
         match self {
             // no `Option`: an absent bound asks for as few rows and bytes as an empty one
@@ -32,8 +34,10 @@ impl<'b> Bound<'b> {
     }
 
     /// Whether this, as a lower bound, is below the key, or Included and equal.
+    #[tactic(auto, using(crate::proofs::Words::from_said, crate::proofs::Words::from_test))]
     pub fn reached_by(self, key: &[u8]) -> bool
-        ensures { result ≡ is_reached (value_of self.entry) key.now }
+        ensures answer { result ≡ is_reached (value_of self.entry) key.now }
+        ensures meaning { (result ≡ true) ↔ From (value_of self.entry) key.now }
     {
         match self {
             Bound::Unbounded => true,
@@ -43,8 +47,10 @@ impl<'b> Bound<'b> {
     }
 
     /// Whether the key is above this, as an upper bound, or equal to an Excluded one.
+    #[tactic(auto, using(crate::proofs::Words::to_said, crate::proofs::Words::to_test))]
     pub fn exceeded_by(self, key: &[u8]) -> bool
-        ensures { result ≡ is_exceeded (value_of self.entry) key.now }
+        ensures answer { result ≡ is_exceeded (value_of self.entry) key.now }
+        ensures meaning { (result ≡ false) ↔ To (value_of self.entry) key.now }
     {
         match self {
             Bound::Unbounded => false,
@@ -54,8 +60,10 @@ impl<'b> Bound<'b> {
     }
 
     /// The same of the key `front` followed by `byte`, without writing the byte.
+    #[tactic(auto, using(crate::proofs::Words::to_said, crate::proofs::Words::to_test))]
     pub fn exceeded_with_byte(self, front: &[u8], byte: u8) -> bool
-        ensures { result ≡ is_exceeded (value_of self.entry) (front.now ++ (byte ∷ [])) }
+        ensures answer { result ≡ is_exceeded (value_of self.entry) (front.now ++ (byte ∷ [])) }
+        ensures meaning { (result ≡ false) ↔ To (value_of self.entry) (front.now ++ (byte ∷ [])) }
     {
         match self {
             Bound::Unbounded => false,

@@ -1,7 +1,9 @@
 //! How the cases came out.
+use crate::asked::marks;
 use crate::case::Answers;
 use crate::recorded::Recorded;
 use crate::run::Run;
+use anyhow::Context;
 use graph::Graph;
 use std::alloc::{AllocError, Global};
 use std::fmt::Write;
@@ -39,6 +41,8 @@ pub(crate) struct Account {
     text: String,
     catalogue: Tally,
     list: Tally,
+    // filters asked at single states
+    asked: Tally,
 }
 
 const NONE: Tally = Tally {
@@ -91,6 +95,7 @@ impl Account {
             text: String::new(heap),
             catalogue: NONE,
             list: NONE,
+            asked: NONE,
         }
     }
 
@@ -126,18 +131,48 @@ impl Account {
         Ok(())
     }
 
+    /// Asks a filter at single states, and compares the answers with the recorded ones.
+    pub(crate) fn ask(&mut self, heap: Global, line: &str) -> anyhow::Result<()> {
+        let short = "a line of questions has three parts";
+        let (keys, rest) = line.split_once(' ').context(short)?;
+        let (recorded, filter) = rest.split_once(' ').context(short)?;
+        let answered = marks(heap, keys, filter)?;
+        if answered.as_str() == recorded {
+            self.asked.count(Outcome::Agrees, false);
+        } else {
+            self.asked.count(Outcome::Unexplained, false);
+            writeln!(self.text, "unexplained: {line}")?;
+            writeln!(self.text, "answered: {answered}")?;
+        }
+        Ok(())
+    }
+
     /// The whole account.
     pub(crate) fn close(self) -> Result<String, AllocError> {
         let Account {
             mut text,
             catalogue,
             list,
+            asked,
         } = self;
         write!(text, "{COMPARED}through a catalogue: ")?;
         catalogue.write(&mut text)?;
         write!(text, "through a list: ")?;
         list.write(&mut text)?;
-        let unexplained = catalogue.unexplained.saturating_add(list.unexplained);
+        let Tally {
+            agree,
+            unexplained,
+            ..
+        } = asked;
+        writeln!(
+            text,
+            "filters asked whether states match, can match, always will"
+        )?;
+        writeln!(text, "  {agree} agree")?;
+        writeln!(text, "  {unexplained} unexplained")?;
+        let unexplained = unexplained
+            .saturating_add(catalogue.unexplained)
+            .saturating_add(list.unexplained);
         writeln!(text, "unexplained {unexplained}")?;
         Ok(text)
     }

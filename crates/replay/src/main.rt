@@ -1,9 +1,10 @@
-//! Replays searches that the original answered, and compares every answer.
+//! Replays searches that the original answered, asks filters what it was asked, and compares every answer.
 #![tactic(auto)]
 
 mod account;
 mod any_filter;
 mod areas;
+mod asked;
 mod case;
 mod notation;
 mod recorded;
@@ -73,6 +74,8 @@ fn main(rt: HostRuntime) -> anyhow::Result<()> {
             let (mut case, graphs) = current.take().context("an end without a case")?;
             case.answers.count = count.parse::<u32>()?;
             replay::<FourDeep<'_>>(rt.alloc(), &mut account, &case, graphs)?;
+        } else if let Some(asked) = line.strip_prefix("? ") {
+            account.ask(rt.alloc(), asked)?;
         } else if let Some((case, _)) = &mut current {
             case.add_answer(line)?;
         }

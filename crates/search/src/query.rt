@@ -1,6 +1,7 @@
 //! A query: the bounds that a search is opened with.
-ghost use Rattle.std.specs.Prelude.{◌≡◌, IfErr};
+ghost use Rattle.std.specs.Prelude.{◌≡◌, IfOk, IfErr};
 ghost use Rattle.bound.specs.Value.{unbounded, included, excluded};
+ghost use Rattle.bound.specs.declared.Bound.TheVariants.{Included, Excluded};
 ghost use Rattle.law.specs.Open.{open_of};
 ghost use Rattle.law.specs.Calls.{OpenLaw};
 ghost use Rattle.search.specs.Queries.{bounds_of, outcome_of, opening_by};
@@ -41,7 +42,8 @@ impl<'b> Query<'b> {
 
     /// From these bytes on.
     pub fn ge(self, bytes: &'b [u8]) -> Query<'b>
-        ensures { bounds_of result ≡ record (bounds_of self.entry) { lower = included bytes.now } }
+        ensures answer { bounds_of result ≡ record (bounds_of self.entry) { lower = included bytes.now } }
+        ensures held { result ≡ record self.entry { lower = Included bytes.entry } }
     {
         Query {
             lower: Bound::Included(bytes),
@@ -51,7 +53,8 @@ impl<'b> Query<'b> {
 
     /// Above these bytes.
     pub fn gt(self, bytes: &'b [u8]) -> Query<'b>
-        ensures { bounds_of result ≡ record (bounds_of self.entry) { lower = excluded bytes.now } }
+        ensures answer { bounds_of result ≡ record (bounds_of self.entry) { lower = excluded bytes.now } }
+        ensures held { result ≡ record self.entry { lower = Excluded bytes.entry } }
     {
         Query {
             lower: Bound::Excluded(bytes),
@@ -61,7 +64,8 @@ impl<'b> Query<'b> {
 
     /// Up to these bytes.
     pub fn le(self, bytes: &'b [u8]) -> Query<'b>
-        ensures { bounds_of result ≡ record (bounds_of self.entry) { upper = included bytes.now } }
+        ensures answer { bounds_of result ≡ record (bounds_of self.entry) { upper = included bytes.now } }
+        ensures held { result ≡ record self.entry { upper = Included bytes.entry } }
     {
         Query {
             upper: Bound::Included(bytes),
@@ -71,7 +75,8 @@ impl<'b> Query<'b> {
 
     /// Below these bytes.
     pub fn lt(self, bytes: &'b [u8]) -> Query<'b>
-        ensures { bounds_of result ≡ record (bounds_of self.entry) { upper = excluded bytes.now } }
+        ensures answer { bounds_of result ≡ record (bounds_of self.entry) { upper = excluded bytes.now } }
+        ensures held { result ≡ record self.entry { upper = Excluded bytes.entry } }
     {
         Query {
             upper: Bound::Excluded(bytes),
@@ -90,7 +95,9 @@ impl<'b> Query<'b> {
     ) -> Result<Search<'b, A::State>, Unopened<'b>>
         ensures answer { let b = bounds_of self.entry in
             opening_by result rows.new key_area.new ≡ open_of (G.table graph.now) (A.table filter.now) b.lower b.upper rows.old key_area.old }
+        ensures upper_held { IfOk result (λ s. s.upper ≡ self.entry.upper) }
         ensures handed_back { IfErr result (λ u. bounds_of u.query ≡ bounds_of self.entry) }
+        ensures query_itself { IfErr result (λ u. u.query ≡ self.entry) }
     {
         match open_at(graph, filter, self.lower, rows, key_area) {
             Ok(opened) => Ok(Search {
@@ -122,7 +129,9 @@ impl<'b> Query<'b> {
             rows.new ≡ (open_of (G.table graph.now) (A.table filter.now) b.lower b.upper rows.old key_area.old).rows }
         ensures key_area_left { let b = bounds_of self.entry in
             key_area.new ≡ (open_of (G.table graph.now) (A.table filter.now) b.lower b.upper rows.old key_area.old).key_area }
+        ensures upper_held { IfOk result (λ s. s.upper ≡ self.entry.upper) }
         ensures handed_back { IfErr result (λ u. bounds_of u.query ≡ bounds_of self.entry) }
+        ensures query_itself { IfErr result (λ u. u.query ≡ self.entry) }
         ensures law { let b = bounds_of self.entry in
             OpenLaw (G.table graph.now) (A.table filter.now) b.lower b.upper (outcome_of result) rows.new key_area.new }
     {
