@@ -9,3 +9,4 @@ mod Openings
 mod Going
 mod Tables
 mod Written
+mod Refusing
