@@ -112,7 +112,13 @@ module _ {S : Type 0} {g : Table} {f : Filter S} {lower upper : BoundValue} {sta
           closed.counted g f i.lawful i.lawful_filter lower upper z (i.handed ++ entries x z.key_area) on.after refl ∙ ap length same in
           told_all start g f lower upper a s out i.handed i.told all after (p ∙ ap (λ k. out ++ end_line k) m)
 
-      pub stops : (c : ℕ) → x ≡ Refused c → out ++ refused_line 16 ≡ start ++ report 0 (entries_of a)
-      stops c e =
+      refused : (c : ℕ) → x ≡ Refused c → (c ≡ 16) × (out ++ refused_line 16 ≡ start ++ report 0 (entries_of a))
+      refused c e =
           let (v, why, stands) = explained (Refused c) e in
-          (told_refused start g f lower upper a s out i.handed i.told (Follows place.0) y on.rest v c on.whole on.counted i.rows i.bytes why).1
+          told_refused start g f lower upper a s out i.handed i.told (Follows place.0) y on.rest v c on.whole on.counted i.rows i.bytes why
+
+      pub refused_by_16 : (c : ℕ) → x ≡ Refused c → c ≡ 16
+      refused_by_16 c e = (refused c e).0
+
+      pub stops : (c : ℕ) → x ≡ Refused c → out ++ refused_line 16 ≡ start ++ report 0 (entries_of a)
+      stops c e = (refused c e).1

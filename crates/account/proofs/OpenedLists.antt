@@ -13,7 +13,7 @@ use Rattle.input.specs.Reading.{asked_of, read_of, unless_bad}
 use Rattle.input.specs.Lines.{lines}
 use Rattle.input.specs.declared.refusal.Refusal.TheVariants.{InputTooLong, TooManyNames}
 use Rattle.account.specs.Refusals.{or_else, bound_refusal}
-use Rattle.account.specs.declared.refusal.Refusal.TheVariants.{Input as InputRefused, List as ListRefused, Shift as ShiftRefused, BoundTooLong, SumTooLarge}
+use Rattle.account.specs.declared.refusal.Refusal.TheVariants.{Input as InputRefused, List as ListRefused, Shift as ShiftRefused, Search as SearchRefused}
 use Rattle.account.specs.declared.refusal.AccountError.{AccountError}
 use Rattle.account.specs.declared.refusal.AccountError.TheVariants.{Refused, OutOfMemory}
 use Rattle.account.specs.Account.{account_by, account_of, unless_refused}
@@ -55,6 +55,5 @@ pub list_refused : (text : Bytes) (i : Input) → read_of text ≡ Ok (asked_of 
 list_refused text i p (Refused (ListRefused e)) h out = ap (λ l. out ++ l) (sym (account_is text i p (Some e) h))
 list_refused text i p (Refused (InputRefused e)) h out = absurd h
 list_refused text i p (Refused (ShiftRefused e)) h out = absurd h
-list_refused text i p (Refused BoundTooLong) h out = absurd h
-list_refused text i p (Refused SumTooLarge) h out = absurd h
+list_refused text i p (Refused (SearchRefused e)) h out = absurd h
 list_refused text i p OutOfMemory h out = tt

@@ -1,6 +1,6 @@
 -- Why a search for what is asked is opened or refused, with 256 rows and 255 key bytes. Assumes nothing.
 use Rattle.std.proofs.Common.{◌≡◌, ℕ, ◌<◌, ◌≤◌, Bool, true, false, cond, ltb, leb, ◌⊎◌, List, [], ◌∷◌, ◌++◌, length, sym, refl, ap, subst, inl, inr, arith, leb-false}
-use Rattle.std.proofs.lemmas.Bool.{cases_lt, lt-ltb, le-ltb, cond-true, cond-false}
+use Rattle.std.proofs.lemmas.Bool.{le-leb, cases_lt, lt-ltb, le-ltb, cond-true, cond-false}
 use Rattle.byte_strings.specs.Order.{Bytes, ◌≺◌}
 use Rattle.bound.specs.Value.{BoundValue, bytes_of}
 use Rattle.filter.specs.Filter.{Filter}
@@ -28,6 +28,12 @@ open_fits {S} g f lower upper rows area s e = go (leb (length rows) (length (byt
         (start_at g f (is_inclusive lower) (bytes_of lower) upper rows area))).outcome → length (bytes_of lower) < length rows
     go true p q = cc
     go false p q = leb-false _ _ p
+
+-- with too few rows it is refused by 14
+pub refused_by_14 : {S : Type 0} (g : Table) (f : Filter S) (lower upper : BoundValue) (rows : List (Row S)) (area : Bytes) (c : ℕ)
+    → inr c ≡ (open_of g f lower upper rows area).outcome → length rows ≤ length (bytes_of lower) → c ≡ 14
+unfolding open_of
+refused_by_14 g f lower upper rows area c e h = let p = rw (le-leb (length rows) (length (bytes_of lower)) h) at e in cc
 
 module _ {S : Type 0} (g : Table) (f : Filter S) (lower upper : BoundValue) (a : Asked) (s : Searches g f lower upper a) where
   -- an opening is refused only where the lower bound is too long

@@ -1,6 +1,6 @@
 //! Why an account ends early.
 ghost use Rattle.std.specs.Prelude.{◌≡◌};
-ghost use Rattle.account.specs.declared.refusal.Refusal.TheVariants.{List as ListRefused, Shift as ShiftRefused, BoundTooLong, SumTooLarge};
+ghost use Rattle.account.specs.declared.refusal.Refusal.TheVariants.{List as ListRefused, Shift as ShiftRefused, Search as SearchRefused};
 ghost use Rattle.account.specs.declared.refusal.AccountError.TheVariants.{Refused, OutOfMemory};
 ghost use Rattle.account.specs.Numbers.{number_of};
 ghost use Rattle.account.specs.Errors.{error_of};
@@ -21,10 +21,8 @@ pub(crate) enum Refusal {
     List(names::Refusal),
     /// The totals of the list cannot be raised.
     Shift(graph::Refusal),
-    /// The lower bound needs more than 256 rows.
-    BoundTooLong,
-    /// The total of a listed name passes 64 bits.
-    SumTooLarge,
+    /// The search is not opened, or does not go on.
+    Search(search::Refusal),
 }
 
 impl Refusal {
@@ -32,13 +30,11 @@ impl Refusal {
     pub(crate) fn number(self) -> u8
         ensures { result ≡ number_of self }
     {
-        // no cast: some of the cases carry a refusal with a number of its own
         match self {
             Refusal::Input(refusal) => refusal.number(),
             Refusal::List(refusal) => refusal.number(),
             Refusal::Shift(refusal) => refusal.number(),
-            Refusal::BoundTooLong => 14,
-            Refusal::SumTooLarge => 16,
+            Refusal::Search(refusal) => refusal.number(),
         }
     }
 }
@@ -86,21 +82,19 @@ impl From<Unshifted<List>> for AccountError {
     }
 }
 
-/// There are rows and key bytes enough for every name, so only a lower bound can be too long.
-impl From<Unopened<'_>> for AccountError {
-    ghost from_gives = { λ _ e. e ≡ Refused BoundTooLong };
+impl From<search::Refusal> for AccountError {
+    ghost from_gives = { λ refusal e. e ≡ Refused (SearchRefused refusal) };
 
-    fn from(_unopened: Unopened<'_>) -> AccountError {
-        AccountError::Refused(Refusal::BoundTooLong)
+    fn from(refusal: search::Refusal) -> AccountError {
+        AccountError::Refused(Refusal::Search(refusal))
     }
 }
 
-/// For the same reason nothing but a total that is too large keeps a search from its next key.
-impl From<search::Refusal> for AccountError {
-    ghost from_gives = { λ _ e. e ≡ Refused SumTooLarge };
+impl From<Unopened<'_>> for AccountError {
+    ghost from_gives = { λ unopened e. e ≡ Refused (SearchRefused unopened.refusal) };
 
-    fn from(_refusal: search::Refusal) -> AccountError {
-        AccountError::Refused(Refusal::SumTooLarge)
+    fn from(unopened: Unopened<'_>) -> AccountError {
+        AccountError::from(unopened.refusal)
     }
 }
 
