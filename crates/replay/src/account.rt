@@ -1,4 +1,5 @@
 //! How the cases came out.
+use crate::areas::{Growth, Room};
 use crate::case::Answers;
 use crate::recorded::Recorded;
 use crate::run::Run;
@@ -23,13 +24,15 @@ enum Outcome {
     Unexplained,
 }
 
-/// How many cases came out in each way.
+/// How many cases came out in each way, and how their areas grew.
 #[derive(Clone, Copy)]
 struct Tally {
     with_rows: u32,
     agree: u32,
     by_rule: u32,
     unexplained: u32,
+    rows_added: u32,
+    bytes_added: u32,
 }
 
 /// The account so far.
@@ -38,7 +41,9 @@ pub(crate) struct Account {
     // the unexplained cases, each with the answers that were expected and those that came
     text: String,
     catalogue: Tally,
+    growing_catalogue: Tally,
     list: Tally,
+    growing_list: Tally,
 }
 
 const NONE: Tally = Tally {
@@ -46,19 +51,22 @@ const NONE: Tally = Tally {
     agree: 0,
     by_rule: 0,
     unexplained: 0,
+    rows_added: 0,
+    bytes_added: 0,
 };
 
 /// What is compared, and what is not.
 const COMPARED: &str = "\
-compared: the key, the total and the state of each answer, the end, two calls behind it, and the count
+compared: the key, the total and the state of each answer, the end, two calls after it, and the count
 compared where the record has rows, after the opening and after each answer: the depth, the key bytes, a waiting total,
   and the position, the total and the state of each row
 the depth is seen by the fewest rows that `key` takes, a waiting total by a second search without an upper bound
 not compared: the nodes of rows, which the record does not have
+each case runs with 256 rows and 255 bytes, and again with one row and no byte, to which each 14 adds a row and each 15 a byte
 ";
 
 impl Tally {
-    fn count(&mut self, outcome: Outcome, with_rows: bool) {
+    fn count(&mut self, outcome: Outcome, with_rows: bool, growth: Growth) {
         let number = match outcome {
             Outcome::Agrees => &mut self.agree,
             Outcome::ByRule => &mut self.by_rule,
@@ -68,6 +76,8 @@ impl Tally {
         if with_rows {
             self.with_rows = self.with_rows.saturating_add(1);
         }
+        self.rows_added = self.rows_added.saturating_add(growth.rows);
+        self.bytes_added = self.bytes_added.saturating_add(growth.bytes);
     }
 
     fn write(self, text: &mut String) -> Result<(), AllocError> {
@@ -76,12 +86,18 @@ impl Tally {
             agree,
             by_rule,
             unexplained,
+            rows_added,
+            bytes_added,
         } = self;
         let cases = agree.saturating_add(by_rule).saturating_add(unexplained);
         writeln!(text, "{cases} cases, {with_rows} with rows")?;
         writeln!(text, "  {agree} agree")?;
         writeln!(text, "  {by_rule} differ by the rule of the empty key")?;
-        writeln!(text, "  {unexplained} unexplained")
+        writeln!(text, "  {unexplained} unexplained")?;
+        writeln!(
+            text,
+            "  refused and tried again: 14 {rows_added}, 15 {bytes_added}"
+        )
     }
 }
 
@@ -90,7 +106,18 @@ impl Account {
         Account {
             text: String::new(heap),
             catalogue: NONE,
+            growing_catalogue: NONE,
             list: NONE,
+            growing_list: NONE,
+        }
+    }
+
+    fn tally(&mut self, kind: Kind, room: Room) -> &mut Tally {
+        match (kind, room) {
+            (Kind::Catalogue, Room::Ample) => &mut self.catalogue,
+            (Kind::Catalogue, Room::Growing) => &mut self.growing_catalogue,
+            (Kind::List, Room::Ample) => &mut self.list,
+            (Kind::List, Room::Growing) => &mut self.growing_list,
         }
     }
 
@@ -106,7 +133,7 @@ impl Account {
         kind: Kind,
         run: &Run<'_, G, F>,
     ) -> Result<(), AllocError> {
-        let answers = run.answers()?;
+        let (answers, growth) = run.answers()?;
         let recorded = &run.case.answers;
         let by_rule = run.expected_by_rule()?;
         let outcome = match &by_rule {
@@ -119,10 +146,8 @@ impl Account {
             self.show("expected", by_rule.as_ref().unwrap_or(recorded))?;
             self.show("answered", &answers)?;
         }
-        match kind {
-            Kind::Catalogue => self.catalogue.count(outcome, run.case.with_rows),
-            Kind::List => self.list.count(outcome, run.case.with_rows),
-        }
+        self.tally(kind, run.room)
+            .count(outcome, run.case.with_rows, growth);
         Ok(())
     }
 
@@ -131,13 +156,22 @@ impl Account {
         let Account {
             mut text,
             catalogue,
+            growing_catalogue,
             list,
+            growing_list,
         } = self;
-        write!(text, "{COMPARED}through a catalogue: ")?;
-        catalogue.write(&mut text)?;
-        write!(text, "through a list: ")?;
-        list.write(&mut text)?;
-        let unexplained = catalogue.unexplained.saturating_add(list.unexplained);
+        write!(text, "{COMPARED}")?;
+        let mut unexplained = 0u32;
+        for (title, tally) in [
+            ("through a catalogue", catalogue),
+            ("through a catalogue, areas growing", growing_catalogue),
+            ("through a list", list),
+            ("through a list, areas growing", growing_list),
+        ] {
+            write!(text, "{title}: ")?;
+            tally.write(&mut text)?;
+            unexplained = unexplained.saturating_add(tally.unexplained);
+        }
         writeln!(text, "unexplained {unexplained}")?;
         Ok(text)
     }
