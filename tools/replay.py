@@ -4,13 +4,15 @@
 The cases and their answers, and what filters answer at single states, come from recorded/, the answers of the original. This
 script writes each case's graph as a catalogue, by docs/FORMATS.md, and as names where a list of them has the same totals,
 and each filter word by word. Which cases are to differ by the rule of the empty key it works out from the meaning of filters
-(docs/SEARCH.md). It shares no code with the crates. Run from the repository's root.
+(docs/SEARCH.md), and how often areas grow by the model of the search in search_model.py, which has to list what the original
+lists. It shares no code with the crates. Run from the repository's root.
 """
 import re
 
 from catalogue_model import export, keys_below
+import search_model as model
 
-RECORDS = ["recorded/listing.txt", "recorded/searches.txt", "recorded/drawn.txt"]
+RECORDS = ["recorded/settled.txt", "recorded/listing.txt", "recorded/searches.txt", "recorded/drawn.txt"]
 
 
 def unhex(text):
@@ -25,7 +27,7 @@ def to_hex(data):
 
 
 def trie(names, share):
-    """The nodes of a trie, each behind those that it leads to; share is what the keys behind a transition give it."""
+    """The nodes of a trie, each after those that it leads to; share is what the keys after a transition give it."""
     nodes = []
 
     def node(part, depth, carried):
@@ -142,19 +144,66 @@ def accepts(term, key):
     return matches(term[1], key + b"/") if term[0] == "closed" else matches(term, key)
 
 
+def read_bounds(bounds):
+    """The last lower and the last upper bound, each with its bytes."""
+    sides = {"g": None, "l": None}
+    for bound in bounds.split(",") if bounds != "-" else []:
+        kind, data = bound.split(":")
+        sides[kind[0]] = (kind, unhex(data))
+    return sides["g"], sides["l"]
+
+
 def lets_empty_key_in(bounds):
-    lower, upper = "-", "-"
-    for bound in bounds.split(","):
-        if bound[:2] in ("ge", "gt"):
-            lower = bound
-        elif bound[:2] in ("le", "lt"):
-            upper = bound
-    return lower in ("-", "ge:_") and upper != "lt:_"
+    lower, upper = read_bounds(bounds)
+    return lower in (None, ("ge", b"")) and upper != ("lt", b"")
 
 
 def differs_by_rule(nodes, bounds, term):
     """The original asks for no end state of the empty key: here that changes the verdict, and the key is due."""
     return nodes[-1][0] is not None and lets_empty_key_in(bounds) and matches(term, b"") != accepts(term, b"")
+
+
+# how areas of one row and no byte grow, by the model of the search
+
+
+def model_filter(term):
+    kind, *held = term
+    if kind == "all":
+        return model.AlwaysMatch()
+    if kind in ("str", "sub"):
+        return (model.Str if kind == "str" else model.Subsequence)(held[0])
+    inner = [model_filter(filter) for filter in held]
+    if kind in ("or", "and"):
+        return model.Pair(any if kind == "or" else all, *inner)
+    return {"sw": model.StartsWith, "not": model.Complement, "closed": model.Closed}[kind](*inner)
+
+
+def model_graph(nodes):
+    ways = [(final, [(byte, output, target) for byte, target, output in steps]) for final, steps in nodes]
+    return model.Graph(len(nodes) - 1, dict(enumerate(ways)))
+
+
+def listed_while_growing(nodes, bounds, term):
+    """The keys with their totals, and how many rows and bytes were added for them."""
+    graph, filter, (lower, upper) = model_graph(nodes), model_filter(term), read_bounds(bounds)
+    rows, area, listed = [None], [], []
+
+    def grown(call):
+        while True:
+            try:
+                return call()
+            except model.Refused as refused:
+                {14: rows, 15: area}[refused.number].append(0)
+
+    search = grown(lambda: model.Search(graph, filter, lower, upper, rows, area))
+    while (item := grown(lambda: search.next(rows, area))) is not None:
+        listed.append((bytes(search.key(rows, area)), item[1]))
+    return listed, len(rows) - 1, len(area)
+
+
+def recorded_keys(answers):
+    lines = [line.removeprefix("next ").split(" ") for line in answers if line[:4] not in ("open", "end ")]
+    return [(unhex(line[0]), int(line[1])) for line in lines if line[0] != "end"]
 
 
 def cases():
@@ -176,17 +225,24 @@ def questions():
 
 
 COMPARED = """\
-compared: the key, the total and the state of each answer, the end, two calls behind it, and the count
+compared: the key, the total and the state of each answer, the end, two calls after it, and the count
 compared where the record has rows, after the opening and after each answer: the depth, the key bytes, a waiting total,
   and the position, the total and the state of each row
 the depth is seen by the fewest rows that `key` takes, a waiting total by a second search without an upper bound
 not compared: the nodes of rows, which the record does not have
+each case runs with 256 rows and 255 bytes, and again with one row and no byte, to which each 14 adds a row and each 15 a byte
 """
 
 
+def write_part(file, title, number, with_rows, by_rule, rows_added, bytes_added):
+    file.write(f"{title}: {number} cases, {with_rows} with rows\n  {number - by_rule} agree\n")
+    file.write(f"  {by_rule} differ by the rule of the empty key\n  0 unexplained\n")
+    file.write(f"  refused and tried again: 14 {rows_added}, 15 {bytes_added}\n")
+
+
 def main():
-    # cases, those with rows, those that differ by the rule
-    counts = {"catalogue": [0, 0, 0], "list": [0, 0, 0]}
+    # cases, those with rows, those that differ by the rule, rows and bytes added
+    counts = {"catalogue": [0] * 5, "list": [0] * 5}
     with open("crates/replay/stdin", "w") as file:
         for (verb, graph, bounds, filter_text), answers in cases():
             nodes, names = graph_of(verb, graph)
@@ -196,19 +252,21 @@ def main():
             listed = "-" if names is None else ",".join(to_hex(name) for name in names)
             file.write(f"> {kind} {packed(export(nodes))} {listed} {bounds} {words(term)}\n")
             file.writelines(answers)
+            by_rule = differs_by_rule(nodes, bounds, term)
+            keys, *added = listed_while_growing(nodes, bounds, term)
+            assert by_rule or keys == recorded_keys(answers)
+            # a list has the paths of the catalogue, so its areas grow alike
             for graph_kind in ["catalogue"] + ["list"] * (names is not None):
-                count = counts[graph_kind]
-                count[0] += 1
-                count[1] += kind == "rows"
-                count[2] += differs_by_rule(nodes, bounds, term)
+                parts = [1, kind == "rows", by_rule, *added]
+                counts[graph_kind] = [count + part for count, part in zip(counts[graph_kind], parts)]
         keys, asked = questions()
         for marks, filter_text in asked:
             file.write(f"? {keys} {marks} {words(read_filter(filter_text)[0])}\n")
     with open("crates/replay/stdout", "w") as file:
         file.write(COMPARED)
-        for graph_kind, (number, with_rows, by_rule) in counts.items():
-            file.write(f"through a {graph_kind}: {number} cases, {with_rows} with rows\n  {number - by_rule} agree\n")
-            file.write(f"  {by_rule} differ by the rule of the empty key\n  0 unexplained\n")
+        for graph_kind, (*parts, rows_added, bytes_added) in counts.items():
+            write_part(file, f"through a {graph_kind}", *parts, 0, 0)
+            write_part(file, f"through a {graph_kind}, areas growing", *parts, rows_added, bytes_added)
         file.write(f"filters asked whether states match, can match, always will\n  {len(asked)} agree\n  0 unexplained\n")
         file.write("unexplained 0\n")
 

@@ -421,7 +421,7 @@ class Digest:
 
 
 class Part(list):
-    """The first so many of an area's items, written through to the area."""
+    """The first items of an area, `length` of them, written through to the area."""
 
     def __init__(self, area, length):
         super().__init__(area[:length])
@@ -438,13 +438,21 @@ class Run:
         self.counts = {call: {} for call in ("open", "next", "key")}
         self.answers, self.areas = Digest(), Digest()
 
+    def draw_node(self):
+        dice = self.dice
+        kind = dice.below(8)
+        if kind == 0:
+            return dice.below(2**32)
+        if kind == 1:
+            return 2**32 - 1 - dice.below(5)
+        if kind <= 4:
+            name = dice.below(10)
+            return 256 * name + dice.below(5)
+        return dice.below(6)
+
     def draw_row(self, filter):
         dice = self.dice
-        if dice.once_in(2):
-            node = dice.below(10) * 256
-            node += dice.below(5)
-        else:
-            node = dice.below(6)
+        node = self.draw_node()
         position = dice.number()
         total = dice.number()
         return [node, position, total, filter.draw(dice)]
@@ -454,6 +462,11 @@ class Run:
         count = 0 if dice.once_in(4) else 4
         rows = [self.draw_row(filter) for _ in range(dice.below(5) + count)]
         return rows, dice.bytes(3 if dice.once_in(4) else 9)
+
+    def lengthen(self, filter, rows, area):
+        for _ in range(6):
+            rows.append(self.draw_row(filter))
+            area.append(self.dice.byte())
 
     def damage(self, filter, rows, area):
         at = self.dice.below(6)
@@ -487,15 +500,25 @@ class Run:
 
     def round(self, graph, filter):
         rows, area = self.draw_areas(filter)
-        lower, upper = self.draw_bounds()
+        bounds = self.draw_bounds()
+        search = self.open(graph, filter, bounds, rows, area)
+        if search is None:
+            self.lengthen(filter, rows, area)
+            search = self.open(graph, filter, bounds, rows, area)
+        if search is not None:
+            self.calls(search, filter, rows, area)
+
+    def open(self, graph, filter, bounds, rows, area):
         try:
-            search = Search(graph, filter, lower, upper, rows, area)
+            search = Search(graph, filter, *bounds, rows, area)
+            self.answered("open", "searches", [1])
         except Refused as refused:
+            search = None
             self.answered("open", refused.number, [refused.number])
-            self.left(filter, rows, area)
-            return
-        self.answered("open", "searches", [1])
         self.left(filter, rows, area)
+        return search
+
+    def calls(self, search, filter, rows, area):
         for _ in range(self.dice.below(16)):
             if self.dice.once_in(2):
                 self.damage(filter, rows, area)
@@ -508,7 +531,9 @@ class Run:
 
     def call(self, search, filter, rows, area):
         """A call of `next` or `key`, and whether the search has ended."""
-        call = "key" if self.dice.once_in(4) else "next"
+        kind = self.dice.below(8)
+        call = "key" if kind < 2 else "next"
+        search.filter = Complement(filter) if kind == 2 else filter
         try:
             if call == "key":
                 key = search.key(rows, area)

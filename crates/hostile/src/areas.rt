@@ -17,15 +17,20 @@ pub(crate) struct Areas<S> {
     pub(crate) key_area: Vec<u8>,
 }
 
+fn draw_node(dice: &mut Dice) -> u32 {
+    match dice.below(8) {
+        0 => dice.below(1 << 32) as u32,
+        1 => u32::MAX - dice.below(5) as u32,
+        // a list numbers its nodes 256 times a name and a length
+        2..=4 => (dice.below(10) * 256 + dice.below(5)) as u32,
+        // and a catalogue from 0 on
+        _ => dice.below(6) as u32,
+    }
+}
+
 fn draw_row<S: Drawn>(dice: &mut Dice) -> Row<S> {
-    // a list numbers its nodes 256 times a name and a length, a catalogue from 0 on
-    let node = if dice.once_in(2) {
-        dice.below(10) * 256 + dice.below(5)
-    } else {
-        dice.below(6)
-    };
     Row {
-        node: node as u32,
+        node: draw_node(dice),
         position: dice.number() as usize,
         total: dice.number(),
         state: S::draw(dice),
@@ -57,6 +62,15 @@ impl<S: Drawn> Areas<S> {
         let limit = if dice.once_in(4) { 3 } else { 9 };
         let key_area = draw_bytes(heap, dice, limit)?;
         Ok(Areas { rows, key_area })
+    }
+
+    /// Adds as many rows and bytes as any lower bound here needs.
+    pub(crate) fn lengthen(&mut self, dice: &mut Dice) -> Result<(), AllocError> {
+        for _ in 0..6 {
+            self.rows.push(draw_row(dice))?;
+            self.key_area.push(draw_byte(dice))?;
+        }
+        Ok(())
     }
 
     /// Puts another row and another byte somewhere.

@@ -25,7 +25,7 @@ impl Dice {
         (self.roll() >> 11) % limit
     }
 
-    /// Yes once in so many times.
+    /// Yes once in `times` times.
     pub(crate) fn once_in(&mut self, times: u64) -> bool
         requires { 0 < times }
     {

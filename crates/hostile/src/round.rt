@@ -69,7 +69,7 @@ impl Trial {
         }
     }
 
-    /// A search with random bounds and areas, and calls of it.
+    /// A search with random bounds and areas, and calls of it. A query that is handed back is opened once more.
     fn round<G: Graph, A: Automaton>(&mut self, graph: &G, filter: &A) -> Result<(), AllocError>
     where
         A::State: Drawn,
@@ -78,15 +78,39 @@ impl Trial {
         let lower = draw_bytes(self.heap, &mut self.dice, 6)?;
         let upper = draw_bytes(self.heap, &mut self.dice, 4)?;
         let query = draw_query(&mut self.dice, lower.as_slice(), upper.as_slice());
+        let mut opened = self.open(graph, filter, query, &mut areas);
+        if let Err(query) = opened {
+            areas.lengthen(&mut self.dice)?;
+            opened = self.open(graph, filter, query, &mut areas);
+        }
+        if let Ok(search) = opened {
+            self.calls(graph, filter, search, areas);
+        }
+        Ok(())
+    }
+
+    /// Opens a query, or hands it back.
+    fn open<'b, G: Graph, A: Automaton>(
+        &mut self,
+        graph: &G,
+        filter: &A,
+        query: Query<'b>,
+        areas: &mut Areas<A::State>,
+    ) -> Result<Search<'b, A::State>, Query<'b>>
+    where
+        A::State: Drawn,
+    {
         let rows = areas.rows.as_mut_slice();
         match query.open(graph, filter, rows, areas.key_area.as_mut_slice()) {
             Ok(search) => {
                 self.tally.opening(None, areas.digest());
-                self.calls(graph, filter, search, areas);
+                Ok(search)
             }
-            Err(unopened) => self.tally.opening(Some(unopened.refusal), areas.digest()),
+            Err(unopened) => {
+                self.tally.opening(Some(unopened.refusal), areas.digest());
+                Err(unopened.query)
+            }
         }
-        Ok(())
     }
 
     /// Calls of a search, between which its areas are damaged.
@@ -110,11 +134,17 @@ impl Trial {
             let bytes = cut(&mut self.dice, areas.key_area.len());
             let rows = &mut areas.rows.as_mut_slice()[..rows];
             let key_area = &mut areas.key_area.as_mut_slice()[..bytes];
-            let writes = if self.dice.once_in(4) {
-                self.key(&search, rows, key_area, story);
-                false
-            } else {
-                self.next(graph, filter, &mut search, rows, key_area, &mut story)
+            let writes = match self.dice.below(8) {
+                0 | 1 => {
+                    self.key(&search, rows, key_area, story);
+                    false
+                }
+                // another filter with the same states
+                2 => {
+                    let others = filter.complement();
+                    self.next(graph, &others, &mut search, rows, key_area, &mut story)
+                }
+                _ => self.next(graph, filter, &mut search, rows, key_area, &mut story),
             };
             self.tally.expect(writes || areas.digest() == before);
             self.tally.areas(areas.digest());

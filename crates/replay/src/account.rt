@@ -1,4 +1,5 @@
 //! How the cases came out.
+use crate::areas::{Growth, Room};
 use crate::asked::marks;
 use crate::case::Answers;
 use crate::recorded::Recorded;
@@ -25,12 +26,21 @@ enum Outcome {
     Unexplained,
 }
 
-/// How many cases came out in each way.
+/// How many cases came out in each way, and how their areas grew.
 #[derive(Clone, Copy)]
 struct Tally {
     with_rows: u32,
     agree: u32,
     by_rule: u32,
+    unexplained: u32,
+    rows_added: u32,
+    bytes_added: u32,
+}
+
+/// How many filters answered as recorded at each of their states, and how many did not.
+#[derive(Clone, Copy)]
+struct Asked {
+    agree: u32,
     unexplained: u32,
 }
 
@@ -40,9 +50,10 @@ pub(crate) struct Account {
     // the unexplained cases, each with the answers that were expected and those that came
     text: String,
     catalogue: Tally,
+    growing_catalogue: Tally,
     list: Tally,
-    // filters asked at single states
-    asked: Tally,
+    growing_list: Tally,
+    asked: Asked,
 }
 
 const NONE: Tally = Tally {
@@ -50,19 +61,22 @@ const NONE: Tally = Tally {
     agree: 0,
     by_rule: 0,
     unexplained: 0,
+    rows_added: 0,
+    bytes_added: 0,
 };
 
 /// What is compared, and what is not.
 const COMPARED: &str = "\
-compared: the key, the total and the state of each answer, the end, two calls behind it, and the count
+compared: the key, the total and the state of each answer, the end, two calls after it, and the count
 compared where the record has rows, after the opening and after each answer: the depth, the key bytes, a waiting total,
   and the position, the total and the state of each row
 the depth is seen by the fewest rows that `key` takes, a waiting total by a second search without an upper bound
 not compared: the nodes of rows, which the record does not have
+each case runs with 256 rows and 255 bytes, and again with one row and no byte, to which each 14 adds a row and each 15 a byte
 ";
 
 impl Tally {
-    fn count(&mut self, outcome: Outcome, with_rows: bool) {
+    fn count(&mut self, outcome: Outcome, with_rows: bool, growth: Growth) {
         let number = match outcome {
             Outcome::Agrees => &mut self.agree,
             Outcome::ByRule => &mut self.by_rule,
@@ -72,6 +86,8 @@ impl Tally {
         if with_rows {
             self.with_rows = self.with_rows.saturating_add(1);
         }
+        self.rows_added = self.rows_added.saturating_add(growth.rows);
+        self.bytes_added = self.bytes_added.saturating_add(growth.bytes);
     }
 
     fn write(self, text: &mut String) -> Result<(), AllocError> {
@@ -80,12 +96,18 @@ impl Tally {
             agree,
             by_rule,
             unexplained,
+            rows_added,
+            bytes_added,
         } = self;
         let cases = agree.saturating_add(by_rule).saturating_add(unexplained);
         writeln!(text, "{cases} cases, {with_rows} with rows")?;
         writeln!(text, "  {agree} agree")?;
         writeln!(text, "  {by_rule} differ by the rule of the empty key")?;
-        writeln!(text, "  {unexplained} unexplained")
+        writeln!(text, "  {unexplained} unexplained")?;
+        writeln!(
+            text,
+            "  refused and tried again: 14 {rows_added}, 15 {bytes_added}"
+        )
     }
 }
 
@@ -94,8 +116,22 @@ impl Account {
         Account {
             text: String::new(heap),
             catalogue: NONE,
+            growing_catalogue: NONE,
             list: NONE,
-            asked: NONE,
+            growing_list: NONE,
+            asked: Asked {
+                agree: 0,
+                unexplained: 0,
+            },
+        }
+    }
+
+    fn tally(&mut self, kind: Kind, room: Room) -> &mut Tally {
+        match (kind, room) {
+            (Kind::Catalogue, Room::Ample) => &mut self.catalogue,
+            (Kind::Catalogue, Room::Growing) => &mut self.growing_catalogue,
+            (Kind::List, Room::Ample) => &mut self.list,
+            (Kind::List, Room::Growing) => &mut self.growing_list,
         }
     }
 
@@ -111,7 +147,7 @@ impl Account {
         kind: Kind,
         run: &Run<'_, G, F>,
     ) -> Result<(), AllocError> {
-        let answers = run.answers()?;
+        let (answers, growth) = run.answers()?;
         let recorded = &run.case.answers;
         let by_rule = run.expected_by_rule()?;
         let outcome = match &by_rule {
@@ -124,10 +160,8 @@ impl Account {
             self.show("expected", by_rule.as_ref().unwrap_or(recorded))?;
             self.show("answered", &answers)?;
         }
-        match kind {
-            Kind::Catalogue => self.catalogue.count(outcome, run.case.with_rows),
-            Kind::List => self.list.count(outcome, run.case.with_rows),
-        }
+        self.tally(kind, run.room)
+            .count(outcome, run.case.with_rows, growth);
         Ok(())
     }
 
@@ -138,9 +172,9 @@ impl Account {
         let (recorded, filter) = rest.split_once(' ').context(short)?;
         let answered = marks(heap, keys, filter)?;
         if answered.as_str() == recorded {
-            self.asked.count(Outcome::Agrees, false);
+            self.asked.agree = self.asked.agree.saturating_add(1);
         } else {
-            self.asked.count(Outcome::Unexplained, false);
+            self.asked.unexplained = self.asked.unexplained.saturating_add(1);
             writeln!(self.text, "unexplained: {line}")?;
             writeln!(self.text, "answered: {answered}")?;
         }
@@ -152,27 +186,29 @@ impl Account {
         let Account {
             mut text,
             catalogue,
+            growing_catalogue,
             list,
+            growing_list,
             asked,
         } = self;
-        write!(text, "{COMPARED}through a catalogue: ")?;
-        catalogue.write(&mut text)?;
-        write!(text, "through a list: ")?;
-        list.write(&mut text)?;
-        let Tally {
-            agree,
-            unexplained,
-            ..
-        } = asked;
+        write!(text, "{COMPARED}")?;
+        let mut unexplained = asked.unexplained;
+        for (title, tally) in [
+            ("through a catalogue", catalogue),
+            ("through a catalogue, areas growing", growing_catalogue),
+            ("through a list", list),
+            ("through a list, areas growing", growing_list),
+        ] {
+            write!(text, "{title}: ")?;
+            tally.write(&mut text)?;
+            unexplained = unexplained.saturating_add(tally.unexplained);
+        }
         writeln!(
             text,
             "filters asked whether states match, can match, always will"
         )?;
-        writeln!(text, "  {agree} agree")?;
-        writeln!(text, "  {unexplained} unexplained")?;
-        let unexplained = unexplained
-            .saturating_add(catalogue.unexplained)
-            .saturating_add(list.unexplained);
+        writeln!(text, "  {} agree", asked.agree)?;
+        writeln!(text, "  {} unexplained", asked.unexplained)?;
         writeln!(text, "unexplained {unexplained}")?;
         Ok(text)
     }

@@ -78,7 +78,7 @@ fn read_bounds(heap: Global, text: &str) -> anyhow::Result<Vec<BoundCall>> {
     Ok(bounds)
 }
 
-/// The names one behind the other in a text, and where each stands in it.
+/// The names one after the other in a text, and where each stands in it.
 fn read_names(heap: Global, text: &str) -> anyhow::Result<Option<Names>> {
     if text == "-" {
         return Ok(None);
@@ -128,7 +128,7 @@ impl Case {
         self.answers.text.push('\n')
     }
 
-    /// In a case with rows, the line of the opening, and the lines behind it.
+    /// In a case with rows, the line of the opening, and the lines after it.
     pub(crate) fn opening_and_rest(&self) -> (&str, &str) {
         let text = self.answers.text.as_str();
         match text.split_once('\n') {

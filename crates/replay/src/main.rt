@@ -14,13 +14,39 @@ mod word;
 
 use account::{Account, Kind};
 use anyhow::{Context, anyhow, ensure};
+use areas::Room;
 use case::{Case, Graphs, Names, read_case};
 use catalogue::Catalogue;
+use graph::Graph;
 use list::List;
 use recorded::{FourDeep, Recorded};
 use run::Run;
-use std::alloc::Global;
+use std::alloc::{AllocError, Global};
 use std::io::{BufRead, BufReader};
+
+/// Runs a case through a graph, with ample areas and then with areas that grow.
+fn replay_through<'w, G: Graph, F: Recorded<'w>>(
+    heap: Global,
+    account: &mut Account,
+    kind: Kind,
+    graph: &G,
+    filter: &F,
+    case: &Case,
+) -> Result<(), AllocError> {
+    let all = F::all();
+    for room in [Room::Ample, Room::Growing] {
+        let run = Run {
+            heap,
+            graph,
+            filter,
+            all: &all,
+            room,
+            case,
+        };
+        account.compare(kind, &run)?;
+    }
+    Ok(())
+}
 
 /// Runs a case through a catalogue, and through a list where the record has names for one.
 fn replay<'w, F: Recorded<'w>>(
@@ -31,33 +57,18 @@ fn replay<'w, F: Recorded<'w>>(
 ) -> anyhow::Result<()> {
     let Graphs { catalogue, names } = graphs;
     let (filter, rest) = F::said(case.words.as_slice()).context("no filter")?;
-    ensure!(rest.is_empty(), "words behind the filter");
-    let all = F::all();
+    ensure!(rest.is_empty(), "words after the filter");
     let catalogue = Catalogue::open(catalogue).map_err(|refusal| anyhow!(
         "catalogue refused by {}",
         refusal.number()
     ))?;
-    let run = Run {
-        heap,
-        graph: &catalogue,
-        filter: &filter,
-        all: &all,
-        case,
-    };
-    account.compare(Kind::Catalogue, &run)?;
+    replay_through(heap, account, Kind::Catalogue, &catalogue, &filter, case)?;
     if let Some(Names { text, rows }) = names {
         let list = List::open(text, rows).map_err(|refusal| anyhow!(
             "list refused by {}",
             refusal.number()
         ))?;
-        let run = Run {
-            heap,
-            graph: &list,
-            filter: &filter,
-            all: &all,
-            case,
-        };
-        account.compare(Kind::List, &run)?;
+        replay_through(heap, account, Kind::List, &list, &filter, case)?;
     }
     Ok(())
 }

@@ -7,7 +7,7 @@ use std::fmt::Write;
 
 /// A filter that the record can name, and whose states it can show.
 pub(crate) trait Recorded<'w>: Automaton + Copy {
-    /// The filter that the first words say, and the words behind; or none.
+    /// The filter that the first words say, and the words after them; or none.
     fn said(words: &'w [Word]) -> Option<(Self, &'w [Word])>;
 
     /// The filter that accepts every key.

@@ -21,7 +21,7 @@ fn write_waiting_no_more(text: &mut String, opening: &str) -> Result<(), AllocEr
     Ok(())
 }
 
-/// The lines behind the empty key's, where that one stands first.
+/// The lines after the empty key's, where that one stands first.
 fn without_empty_key(lines: &str) -> &str {
     match lines.split_once('\n') {
         Some((first, rest))

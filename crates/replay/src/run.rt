@@ -1,14 +1,14 @@
 //! A case, run through a graph: the answers of the search, as the record writes them.
-use crate::areas::{Areas, depth};
+use crate::areas::{Areas, Growth, MOST_GROWTH, Room, depth};
 use crate::case::{Answers, Case};
 use crate::notation::write_bytes;
 use crate::recorded::Recorded;
 use graph::Graph;
-use search::{Refusal, Row, Search};
+use search::{Item, Query, Refusal, Row, Search, Unopened};
 use std::alloc::{AllocError, Global};
 use std::fmt::Write;
 
-/// A case with the graph and the filter that it is run with, and the filter that accepts every key.
+/// A case with the graph, the filter and the room that it is run with, and the filter that accepts every key.
 // one type for both filters: a search is asked with the one and then with the other
 #[derive(Drop)]
 pub(crate) struct Run<'r, G, F> {
@@ -16,42 +16,62 @@ pub(crate) struct Run<'r, G, F> {
     pub(crate) graph: &'r G,
     pub(crate) filter: &'r F,
     pub(crate) all: &'r F,
+    pub(crate) room: Room,
     pub(crate) case: &'r Case,
 }
 
 impl<'r, 'w, G: Graph, F: Recorded<'w>> Run<'r, G, F> {
     fn areas(&self) -> Result<Areas<F::State>, AllocError> {
-        let row = Row {
+        let blank = Row {
             node: self.graph.root(),
             position: 0,
             total: 0,
             state: self.filter.start(),
         };
-        Areas::new(self.heap, row)
+        Areas::new(self.heap, self.room, blank)
     }
 
+    fn try_open(
+        &self,
+        query: Query<'r>,
+        areas: &mut Areas<F::State>,
+    ) -> Result<Search<'r, F::State>, Unopened<'r>> {
+        query.open(
+            self.graph,
+            self.filter,
+            areas.rows.as_mut_slice(),
+            areas.key_area.as_mut_slice(),
+        )
+    }
+
+    /// The opened search. A query that is handed back is tried again as often as the areas grow.
     fn open(
         &self,
         with_upper: bool,
         areas: &mut Areas<F::State>,
-    ) -> Result<Search<'r, F::State>, Refusal> {
-        self.case
-            .query(with_upper)
-            .open(
-                self.graph,
-                self.filter,
-                areas.rows.as_mut_slice(),
-                areas.key_area.as_mut_slice(),
-            )
-            .map_err(|unopened| unopened.refusal)
+    ) -> Result<Result<Search<'r, F::State>, Refusal>, AllocError> {
+        let mut query = self.case.query(with_upper);
+        for _ in 0..MOST_GROWTH {
+            match self.try_open(query, areas) {
+                Ok(search) => return Ok(Ok(search)),
+                Err(unopened) => {
+                    if !areas.grow(unopened.refusal)? {
+                        return Ok(Err(unopened.refusal));
+                    }
+                    query = unopened.query;
+                }
+            }
+        }
+        let opened = self.try_open(query, areas);
+        Ok(opened.map_err(|unopened| unopened.refusal))
     }
 
-    fn next(
+    fn try_next(
         &self,
         search: &mut Search<'r, F::State>,
         filter: &F,
         areas: &mut Areas<F::State>,
-    ) -> Result<Option<(usize, u64, F::State)>, Refusal> {
+    ) -> Result<Option<Item<F::State>>, Refusal> {
         search.next(
             self.graph,
             filter,
@@ -60,17 +80,36 @@ impl<'r, 'w, G: Graph, F: Recorded<'w>> Run<'r, G, F> {
         )
     }
 
-    /// The total that waits after so many calls of `next`: a second search, with no upper bound, hands it out first
+    /// The next key, or the end. A refused call is tried again as often as the areas grow.
+    fn next(
+        &self,
+        search: &mut Search<'r, F::State>,
+        filter: &F,
+        areas: &mut Areas<F::State>,
+    ) -> Result<Result<Option<Item<F::State>>, Refusal>, AllocError> {
+        let mut answer = self.try_next(search, filter, areas);
+        for _ in 0..MOST_GROWTH {
+            match answer {
+                Err(refusal) if areas.grow(refusal)? => {
+                    answer = self.try_next(search, filter, areas);
+                }
+                _ => break,
+            }
+        }
+        Ok(answer)
+    }
+
+    /// The total that waits after `calls` calls of `next`: a second search, with no upper bound, hands it out first
     /// under the filter that accepts every key.
     fn waiting(&self, calls: usize) -> Result<Option<u64>, AllocError> {
         let mut areas = self.areas()?;
-        let Ok(mut search) = self.open(false, &mut areas) else {
+        let Ok(mut search) = self.open(false, &mut areas)? else {
             return Ok(None);
         };
         for _ in 0..calls {
-            let _ = self.next(&mut search, self.filter, &mut areas);
+            let _ = self.next(&mut search, self.filter, &mut areas)?;
         }
-        Ok(match self.next(&mut search, self.all, &mut areas) {
+        Ok(match self.next(&mut search, self.all, &mut areas)? {
             Ok(Some((0, total, _))) => Some(total),
             _ => None,
         })
@@ -90,7 +129,7 @@ impl<'r, 'w, G: Graph, F: Recorded<'w>> Run<'r, G, F> {
         Ok(())
     }
 
-    /// The rest of a line: in a case with rows, what stands in the areas after so many calls of `next`.
+    /// The rest of a line: in a case with rows, what stands in the areas after `calls` calls of `next`.
     fn end_line(
         &self,
         text: &mut String,
@@ -143,7 +182,7 @@ impl<'r, 'w, G: Graph, F: Recorded<'w>> Run<'r, G, F> {
         search: &mut Search<'r, F::State>,
         areas: &mut Areas<F::State>,
     ) -> Result<bool, AllocError> {
-        match self.next(search, self.filter, areas) {
+        match self.next(search, self.filter, areas)? {
             Ok(Some((length, total, state))) => {
                 self.write_word(text)?;
                 let key = search.key(areas.rows.as_slice(), areas.key_area.as_slice());
@@ -166,15 +205,15 @@ impl<'r, 'w, G: Graph, F: Recorded<'w>> Run<'r, G, F> {
         }
     }
 
-    /// All answers of the search, the opening's rows first.
-    pub(crate) fn answers(&self) -> Result<Answers, AllocError> {
+    /// All answers of the search, the opening's rows first, and how its areas grew.
+    pub(crate) fn answers(&self) -> Result<(Answers, Growth), AllocError> {
         let mut text = String::new(self.heap);
         let mut areas = self.areas()?;
-        let mut search = match self.open(true, &mut areas) {
+        let mut search = match self.open(true, &mut areas)? {
             Ok(search) => search,
             Err(refusal) => {
                 writeln!(text, "refused {}", refusal.number())?;
-                return Ok(Answers { text, count: 0 });
+                return Ok((Answers { text, count: 0 }, areas.growth));
             }
         };
         if self.case.with_rows {
@@ -192,11 +231,11 @@ impl<'r, 'w, G: Graph, F: Recorded<'w>> Run<'r, G, F> {
             }
         }
         for _ in 0..2 {
-            if !matches!(self.next(&mut search, self.filter, &mut areas), Ok(None)) {
-                writeln!(text, "more behind the end")?;
+            if !matches!(self.next(&mut search, self.filter, &mut areas)?, Ok(None)) {
+                writeln!(text, "more after the end")?;
             }
         }
         let count = search.close();
-        Ok(Answers { text, count })
+        Ok((Answers { text, count }, areas.growth))
     }
 }

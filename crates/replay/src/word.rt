@@ -4,7 +4,7 @@ use crate::notation::read_bytes;
 use anyhow::bail;
 use std::alloc::Global;
 
-/// A word of a filter's text: a filter of its own, or what is made of the one or two filters behind it.
+/// A word of a filter's text: a filter of its own, or what is made of the one or two filters after it.
 #[derive(Drop)]
 pub(crate) enum Word {
     Str(Vec<u8>),

@@ -5,7 +5,7 @@ use list::List;
 use search::{Query, Row, Search};
 use std::io;
 
-/// Prints what so many calls of an unfiltered search answer.
+/// Prints what `calls` calls of an unfiltered search answer.
 fn show_calls(
     rt: &HostRuntime,
     list: &List,

@@ -5,7 +5,7 @@ use list::List;
 use search::{Query, Search, complement_agrees, union_agrees};
 use std::io;
 
-/// A search after so many calls of `next`, or none if it was not opened or a call was refused.
+/// A search after `calls` calls of `next`, or none if it was not opened or a call was refused.
 fn called<'b, A: Automaton>(
     rt: &HostRuntime,
     query: Query<'b>,

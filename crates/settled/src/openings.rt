@@ -29,10 +29,10 @@ fn handed_back<'b, G: Graph>(
 
 /// A lower bound of two bytes needs three rows and two bytes.
 fn show_small(rt: &HostRuntime, list: &List) -> io::Result<()> {
-    let query = Query::new().ge(b"aa").le(b"b");
+    let query = Query::new().ge(b"aa").le(b"ab");
     let query = handed_back(rt, query, list, &mut [blank(()); 2], &mut [0; 2])?;
     let query = handed_back(rt, query, list, &mut [blank(()); 3], &mut [0; 1])?;
-    show(rt, "ge \"aa\" and le \"b\"", query, list, &AlwaysMatch)
+    show(rt, "ge \"aa\" and le \"ab\"", query, list, &AlwaysMatch)
 }
 
 /// The way to column b counts 8 squares, which have to fit.
