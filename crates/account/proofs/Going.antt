@@ -9,10 +9,8 @@ use Rattle.law.specs.Entries as law
 use Rattle.law.specs.Entries.{Lists}
 use Rattle.law.specs.Values.{Search, View, Answer, Handed, End, Refused}
 use Rattle.law.specs.History.{History, Serves, entries}
-use Rattle.law.specs.Paths.{Follows, Place}
-use Rattle.law.specs.Standing.{StandsAt}
+use Rattle.law.specs.Paths.{Follows}
 use Rattle.law.specs.Theorems.{Explains}
-use Rattle.law.proofs.Histories.{handed_out_is_front}
 use Rattle.law.specs.Calls.{NextLaw, GoesOn, CloseLaw, OpenLaw}
 use Rattle.law.proofs.Kept.{listable}
 use Rattle.law.proofs.Unique.{determined}
@@ -57,12 +55,9 @@ module _ {S : Type 0} {g : Table} {f : Filter S} {lower upper : BoundValue} {sta
     on : GoesOn g f lower upper y i.handed y x z
     on = next.goes_on lower upper y i.handed i.history (next.still_fits lower upper y i.handed i.history) (itself y)
 
-    -- the history stands at a place, and the answer explains what it leaves from there
-    place : (p : Place) × StandsAt g f lower y p
-    place = let o = handed_out_is_front g f lower upper i.lawful i.lawful_filter y i.handed i.history in (o.place, o.stands)
-
-    explained : (b : Answer S) → x ≡ b → Explains g f lower upper (Follows place.0) (length y.rows) (length y.key_area) y.search.count on.rest b z
-    explained b e = subst (λ (d : Answer S). Explains g f lower upper (Follows place.0) (length y.rows) (length y.key_area) y.search.count on.rest d z) e (on.fits place.0 place.1)
+    -- from the place where the history stands the answer explains what it leaves
+    explained : (b : Answer S) → x ≡ b → Explains g f lower upper (Follows on.place) (length y.rows) (length y.key_area) y.search.count on.rest b z
+    explained b e = subst (λ (d : Answer S). Explains g f lower upper (Follows on.place) (length y.rows) (length y.key_area) y.search.count on.rest d z) e (on.fits on.place on.stands)
 
     module _ {n t : ℕ} {s : S} (e : x ≡ Handed n t s) where
       abbrev given : law.Entry S
@@ -114,8 +109,8 @@ module _ {S : Type 0} {g : Table} {f : Filter S} {lower upper : BoundValue} {sta
 
       refused : (c : ℕ) → x ≡ Refused c → (c ≡ 16) × (out ++ refused_line 16 ≡ start ++ report 0 (entries_of a))
       refused c e =
-          let (v, why, stands) = explained (Refused c) e in
-          told_refused start g f lower upper a s out i.handed i.told (Follows place.0) y on.rest v c on.whole on.counted i.rows i.bytes why
+          let (v, why, rows, stands) = explained (Refused c) e in
+          told_refused start g f lower upper a s out i.handed i.told (Follows on.place) y on.rest v c on.whole on.counted i.rows i.bytes why
 
       pub refused_by_16 : (c : ℕ) → x ≡ Refused c → c ≡ 16
       refused_by_16 c e = (refused c e).0

@@ -14,7 +14,6 @@ use Rattle.law.specs.Calls.{NextLaw, NextEnds, KeyLaw, CloseLaw, UnionLaw, Compl
 use Rattle.law.proofs.Looks.{always_bounded}
 use Rattle.law.proofs.Stands.{next_tells}
 use Rattle.law.proofs.Histories.{history_fits, unstood_keeps_place, handed_out_is_front, exhausted_lists_all}
-use Rattle.law.proofs.Places.{serves_keeps_place}
 use Rattle.law.proofs.Combined.{union_and_intersection_count, complement_count, resumed_lists_the_rest}
 use Rattle.law.proofs.Opening.{open_well}
 use Rattle.law.proofs.Refuses.{open_reason, opened_fits, open_size}
@@ -76,6 +75,8 @@ goes_on_of g f law lawful x = record {
         rest = o.rest;
         whole = o.whole;
         counted = ap (λ (s : Search). s.count) sv.same ∙ o.counted;
+        place = o.place;
+        stands = o.stands;
         fits = o.following x sh sv;
         after = next h x sh sv;
         counted_after = (handed_out_is_front g f lo hi law lawful (next_of g f x).left (es ++ given_out (next_of g f x)) (next h x sh sv)).counted;
@@ -109,5 +110,4 @@ key_law x p q = record {
       (front, e, same, q ∙ k x sh sv);
   areas_too_short = λ sh. q ∙ rw sh;
   none_stands = λ sh st. q ∙ rw (sh, st);
-  place_kept = λ g f lo y sv. serves_keeps_place g f lo y x sv;
 }

@@ -1,4 +1,4 @@
--- What is to come, the areas' lengths, the count and what is owed determine the answer.
+-- What is to come, the areas' lengths, the count and what is owed determine the answer. Assumes nothing.
 use Rattle.std.proofs.Common.{◌≡◌, ℕ, ◌<◌, ◌≤◌, ◌⊎◌, ◌↔◌, cond, eqb, ltb, leb, Less, Equal, Greater, List, [], ◌∷◌, ◌++◌, length, take, sym, refl, ap, ◌∙◌, subst, inl, inr, arith, length-take-le}
 use Rattle.std.proofs.lemmas.Bool.Decides.{nat_tests}
 use Rattle.std.specs.Ordering.{ordering_reverse}
@@ -10,7 +10,7 @@ use Rattle.filter.specs.Filter.{Filter}
 use Rattle.graph.specs.Table.{Lawful, Table}
 use Rattle.law.specs.Entries.{Entry, ◌∈◌}
 use Rattle.law.specs.Values.{Answer, End, Handed, Refused, View, most, most_keys}
-use Rattle.law.specs.Paths.{PathOf, PathFits, ComesTo, NextIs, Stops, stack_full, key_area_full, path_too_large, total_too_large, count_full, Reason, HandsOut, AllFit, Follows}
+use Rattle.law.specs.Paths.{PathOf, PathFits, ComesTo, NextIs, Stops, stack_full, key_area_full, path_too_large, total_too_large, count_full, Reason, HandsOut, FitToBound, Follows}
 use Rattle.law.specs.Theorems.{Explains}
 use Rattle.law.specs.Calls.{AnswerDetermined, OpenReasonDetermined, OpenReason, too_few_rows, too_few_bytes, path_too_large as path_large, empty_key_too_large}
 use Rattle.law.proofs.Entering.{one_path_sum, all_fits}
@@ -104,14 +104,14 @@ module _ {S : Type 0} (g : Table) (f : Filter S) (lower upper : BoundValue) (law
         let (t, n) = a.no_further (b.comes.passed v a.sum a.comes.path (over v a.sum a.comes.path a.comes.to_come) h).0 in
         let (s, later, p) = n in
         let e : Entry S = record { key = v; total = t; state = s } in
-        go (b.comes.owed e (subst (λ (z : List (Entry S)). e ∈ z) (sym p) (inl refl)))
+        go (b.comes.none_owed_before e (subst (λ (z : List (Entry S)). e ∈ z) (sym p) (inl refl)))
       where
         go : (w ≡ v) ⊎ (w ≺ v) → ⊥
         go (inl d) = irreflexive w (subst (λ (z : Bytes). z ≺ w) (sym d) h)
         go (inr m) = irreflexive w (transitive w v w m h)
 
     -- where the one ends, the other does not halt
-    ends_not : (v : Bytes) (c : ℕ) → Halts coming v c → rest ≡ [] → AllFit g f lower upper others rows bytes → ((w : Bytes) (s : ℕ) → PathOf g f lower w s → others w → coming w) → ⊥
+    ends_not : (v : Bytes) (c : ℕ) → Halts coming v c → rest ≡ [] → FitToBound g f lower upper others rows bytes → ((w : Bytes) (s : ℕ) → PathOf g f lower w s → others w → coming w) → ⊥
     ends_not v c a none b back =
         let n = b v a.sum a.comes.path (over v a.sum a.comes.path a.comes.to_come) (λ w s en m t. (a.comes.passed w s en (back w s en m) t).1) in
         let (s, later, p) = (a.no_further n).1 in
@@ -166,15 +166,15 @@ module _ {S : Type 0} (g : Table) (f : Filter S) (lower upper : BoundValue) (law
         let o : n ≡ m = omega arith in
         cc
     same_answer (Handed n t s) End y z (i, a, o) (e, b, q) = absurd (ends_not coming others forth (take n y.key_area) 0 (hands coming _ t s a) e b back)
-    same_answer (Handed n t s) (Refused d) y z (i, a, o) (w, b, q) =
+    same_answer (Handed n t s) (Refused d) y z (i, a, o) (w, b, k, q) =
         absurd (not_none others w d b (sym (same_refusal (take n y.key_area) w 0 d (hands coming _ t s a) (halts others w d b))))
     same_answer End (Handed m u r) y z (e, a, q) (j, b, o) = absurd (ends_not others coming back (take m z.key_area) 0 (hands others _ u r b) e a forth)
     same_answer End End y z a b = refl
-    same_answer End (Refused d) y z (e, a, o) (w, b, q) = absurd (ends_not others coming back w d (halts others w d b) e a forth)
-    same_answer (Refused c) (Handed m u r) y z (v, a, p) (j, b, o) =
+    same_answer End (Refused d) y z (e, a, o) (w, b, k, q) = absurd (ends_not others coming back w d (halts others w d b) e a forth)
+    same_answer (Refused c) (Handed m u r) y z (v, a, k, p) (j, b, o) =
         absurd (not_none coming v c a (same_refusal v (take m z.key_area) c 0 (halts coming v c a) (hands others _ u r b)))
-    same_answer (Refused c) End y z (v, a, p) (e, b, q) = absurd (ends_not coming others forth v c (halts coming v c a) e b back)
-    same_answer (Refused c) (Refused d) y z (v, a, p) (w, b, q) = ap Refused (same_refusal v w c d (halts coming v c a) (halts others w d b))
+    same_answer (Refused c) End y z (v, a, k, p) (e, b, q) = absurd (ends_not coming others forth v c (halts coming v c a) e b back)
+    same_answer (Refused c) (Refused d) y z (v, a, k, p) (w, b, r, q) = ap Refused (same_refusal v w c d (halts coming v c a) (halts others w d b))
 
 -- a call is refused at one path, and with one number
 pub one_reason : {S : Type 0} (g : Table) (f : Filter S) (lower upper : BoundValue) → Lawful g → (coming : Bytes → Type 0) (rows bytes count : ℕ) (rest : List (Entry S)) →

@@ -153,7 +153,7 @@ module _ {S : Type 0} (g : Table) (f : Filter S) (law : Lawful g) where
             left = refl;
           },
         )
-        by_answer coming rest whole (Refused c) e (v, p, o) on = absurd (no_reason coming rest whole v c p)
+        by_answer coming rest whole (Refused c) e (v, p, q, o) on = absurd (no_reason coming rest whole v c p)
 
       finish : (n : ℕ) (y : View S) (es : List (Entry S)) → History g f lo hi y es → AreasSuffice g y → ((fs : List (Entry S)) → Lists g f lo hi fs → length fs ≤ length es + n) → Ended
       finish zero y es h am bound =

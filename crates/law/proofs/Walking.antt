@@ -187,7 +187,7 @@ module _ {S : Type 0} (g : Table) (f : Filter S) (lo hi : BoundValue) where
             path = new_entered;
             to_come = inside w new_coming;
             passed = λ k u en st t. earlier k u en t (has_passed k u en st);
-            owed = λ x m. turned x.key (new_or_behind x.key (path_of g law ((whole.exact x).0 (in_right x es rest m)).is_key) (ahead (Coming g f (suc d) _ _) fr x m));
+            none_owed_before = λ x m. turned x.key (new_or_behind x.key (path_of g law ((whole.exact x).0 (in_right x es rest m)).is_key) (ahead (Coming g f (suc d) _ _) fr x m));
           }
             where
               earlier : (k : Bytes) (u : ℕ) → PathOf g f lo k u → k ≺ w → Coming g f (suc d) x.rows x.key_area k ⊎ (Room k u × To hi k) → Room k u × To hi k
@@ -429,7 +429,7 @@ module _ {S : Type 0} (g : Table) (f : Filter S) (lo hi : BoundValue) where
           room : (v : Bytes) (u : ℕ) → Coming g f x.search.depth x.rows x.key_area v ⊎ (PathFits R B v u × To hi v) → Room v u
           room v u (inl a) = absurd (subst (λ (n : ℕ). Coming g f n x.rows x.key_area v) e a)
           room v u (inr q) = q.0
-      moved x m c (refused n d e h eq) = subst Moved (sym eq) (record { inv = nothing_more x es (between_inv Start R B x es c); explains = (w x d e c, why x d e c n h, stands_there x d e c n h) })
+      moved x m c (refused n d e h eq) = subst Moved (sym eq) (record { inv = nothing_more x es (between_inv Start R B x es c); explains = (w x d e c, why x d e c n h, inr (long x d e c ∙ sym e), stands_there x d e c n h) })
       moved x m c (removed d e sp eq) = subst Moved (sym eq) (taken_off x d e c sp)
       moved x m c (beyond d e k out eq) = subst Moved (sym eq) (goes_beyond x d e c k out)
       moved x m c (passed d e k fit undue eq) = subst Moved (sym eq) (goes_in x d e c k fit undue)
@@ -504,7 +504,7 @@ module _ {S : Type 0} (g : Table) (f : Filter S) (lo hi : BoundValue) where
         path = record { node = g.root; leads = (refl, refl); from = reached_said lo [] (waiting_frame.sound [] (g.root, g.first_total, (refl, refl)) (inl refl)); let_through = steps_none g f lo; empty_is_key = λ e. (i.waits t o).2 };
         to_come = inl refl;
         passed = λ w s en st a. absurd (none_below w a);
-        owed = λ e m. first_or_behind e.key;
+        none_owed_before = λ e m. first_or_behind e.key;
       }
         where
           first_or_behind : (k : Bytes) → ([] ≡ k) ⊎ ([] ≺ k)
@@ -618,7 +618,7 @@ module _ {S : Type 0} (g : Table) (f : Filter S) (lo hi : BoundValue) where
         inv = nothing_more y es still;
         explains =
             let (later, q) = head first_entry (next_entry Later es first_entry (first_frame p v)) in
-            ([], (g.first_total, comes_first, count_full first_fits t (f.start, later, q) (i.waits t o).4 (sym i.counted ∙ n)), stands_first);
+            ([], (g.first_total, comes_first, count_full first_fits t (f.start, later, q) (i.waits t o).4 (sym i.counted ∙ n)), inl refl, stands_first);
       }
 
       first_well : (a b c : Bool) → is_admitted x.search.upper [] ≡ a → verdict_at f f.start ≡ b → eqb x.search.count most_keys ≡ c →

@@ -24,7 +24,9 @@ pub record GoesOn {S : Type 0} (g : Table) (f : Filter S) (lower upper : BoundVa
   -- what was handed out is the front of the list
   pub whole : Lists g f lower upper (es ++ rest)
   pub counted : x.search.count ≡ length es
-  -- the answer is the head of the rest, or the end where there is none, or a refusal with its reason
+  -- y stands at a place, and from there the answer is the head of the rest, or the end where there is none, or a refusal with its reason
+  pub place : Place
+  pub stands : StandsAt g f lower y place
   pub fits : Fits g f lower upper y rest x a z
   -- and the search goes on from what is left
   pub after : History g f lower upper z (es ++ entries a z.key_area)
@@ -66,9 +68,6 @@ pub record KeyLaw {S : Type 0} (x : View S) (p : Part) : Type 0 where
       (front : List (Entry S)) × (e : Entry S) × (es ≡ front ++ (e ∷ [])) × (p ≡ Standing e.key)
   pub areas_too_short : too_short x ≡ true → p ≡ NoPart 13
   pub none_stands : too_short x ≡ false → x.search.standing ≡ false → p ≡ NoPart 18
-  -- and with the areas of the call the search stands where it stood
-  pub place_kept : (g : Table) (f : Filter S) (lower : BoundValue) (y : View S) → Serves y x →
-      (q : Place) → StandsAt g f lower y q → StandsAt g f lower x q
 
 -- why an `open` with areas of these numbers of rows and key bytes is refused
 pub data OpenReason (g : Table) (lower : BoundValue) (rows bytes : ℕ) : ℕ → Type 0 where
@@ -116,7 +115,7 @@ pub record ComplementLaw (A : Type 0) (matching others unfiltered : Search) (agr
       (us : List (Entry (Unit {0}))) → Exhausted g always_match_table lower upper unfiltered us →
       (agree ≡ true) × (matching.count + others.count ≡ unfiltered.count)
 
--- one answer only: of two answers to one call after one history, which both keep the law, neither differs
+-- one answer only: two answers to one call after one history that both keep the law are the same
 abbrev pub AnswerDetermined : Type 0 → Type 0
 AnswerDetermined S = (g : Table) (f : Filter S) (lower upper : BoundValue) → Lawful g → LawfulFilter f →
     (y : View S) (es : List (Entry S)) → History g f lower upper y es → (x : View S) (a b : Answer S) (z u : View S) →

@@ -1,4 +1,4 @@
--- The paths of a search, the places that it comes to among them, and why a call stops at one of them.
+-- The paths of a search, the places that it comes to among them, and why a call stops at one of them. Assumes nothing.
 use Rattle.std.specs.Prelude.{◌≡◌, ℕ, ◌<◌, ◌≤◌, true, ◌⊎◌, List, [], ◌∷◌, ◌++◌, length}
 use Rattle.byte_strings.specs.Order.{Bytes, ◌≺◌}
 use Rattle.bound.specs.Value.{BoundValue}
@@ -41,7 +41,7 @@ pub record HasRoom (rows bytes : ℕ) (v : Bytes) : Type 0 where
   pub row_free : length v < rows
   pub byte_free : length v ≤ bytes
 
--- and its sum u has to be a total
+-- and its sum u is at most 2^64 − 1
 pub record PathFits (rows bytes : ℕ) (v : Bytes) (u : ℕ) : Type 0 where
   pub room : HasRoom rows bytes v
   pub sum_fits : u ≤ most
@@ -65,11 +65,11 @@ module _ {S : Type 0} (g : Table) (f : Filter S) (lower upper : BoundValue) (com
     pub path : PathOf g f lower v u
     pub to_come : coming v
     pub passed : (w : Bytes) (s : ℕ) → PathOf g f lower w s → coming w → w ≺ v → PathFits rows bytes w s × To upper w
-    pub owed : (e : Entry S) → e ∈ rest → (v ≡ e.key) ⊎ (v ≺ e.key)
+    pub none_owed_before : (e : Entry S) → e ∈ rest → Follows (before v) e.key
 
   -- every path to come fits, up to the first that the upper bound keeps out, and this one too
-  abbrev pub AllFit : Type 0
-  AllFit = (v : Bytes) (u : ℕ) → PathOf g f lower v u → coming v →
+  abbrev pub FitToBound : Type 0
+  FitToBound = (v : Bytes) (u : ℕ) → PathOf g f lower v u → coming v →
       ((w : Bytes) (s : ℕ) → PathOf g f lower w s → coming w → w ≺ v → To upper w) → PathFits rows bytes v u
 
   module _ (count : ℕ) (rest : List (Entry S)) where

@@ -1,5 +1,5 @@
--- How a search keeps its place among its paths, in its rows. What the law says of places holds of this relation, and
--- of no other thing is it used: a search is opened at the start, and each call goes on from where the last one left it.
+-- How a search keeps its place among its paths, in its rows. The law takes a place as given where a call begins, and says
+-- it again of what the call leaves; an opening is at the start. Nothing else of this relation is used. Assumes nothing.
 use Rattle.std.specs.Prelude.{◌≡◌, ℕ, zero, suc, ◌<◌, ◌⊎◌, ◌↔◌, List, [], ◌∷◌, ◌++◌, get_or, take, Some, None, Option}
 use Rattle.byte_strings.specs.Order.{Bytes, ◌≺◌}
 use Rattle.bound.specs.Value.{BoundValue}

@@ -1,5 +1,5 @@
 -- The theorems about whole searches, for all tables and all histories. Each is named by the contract of a function. Assumes nothing.
-use Rattle.std.specs.Prelude.{◌≡◌, ℕ, suc, ◌+◌, ◌≤◌, true, false, List, [], ◌∷◌, ◌++◌, length, take, None}
+use Rattle.std.specs.Prelude.{◌≡◌, ◌⊎◌, ℕ, suc, ◌+◌, ◌≤◌, true, false, List, [], ◌∷◌, ◌++◌, length, take, None}
 use Rattle.byte_strings.specs.Order.{Bytes}
 use Rattle.bound.specs.Value.{BoundValue, excluded}
 use Rattle.graph.specs.Table.{Table, Lawful}
@@ -10,8 +10,12 @@ use Rattle.law.specs.Entries.{Entry, Lists}
 use Rattle.law.specs.Values.{most, most_keys, Search, View, Answer, Handed, End, Refused, Standing, NoPart, too_short}
 use Rattle.law.specs.Next.{all_looks, Walks, walk, next_of, key_of}
 use Rattle.law.specs.History.{Serves, History}
-use Rattle.law.specs.Paths.{Place, Follows, after, before, at_end, HandsOut, Reason, AllFit}
+use Rattle.law.specs.Paths.{Place, Follows, after, before, at_end, HandsOut, Reason, FitToBound}
 use Rattle.law.specs.Standing.{StandsAt}
+
+-- the rows in use are those of the bytes of v before its last; of the empty path there are none
+abbrev pub RowsBefore : {S : Type 0} → View S → Bytes → Type 0
+RowsBefore z v = (v ≡ []) ⊎ (length v ≡ z.search.depth)
 
 -- what an answer of a call says, with the paths of coming to come and rest owed, and where the search z that it leaves stands
 module _ {S : Type 0} (g : Table) (f : Filter S) (lower upper : BoundValue)
@@ -20,11 +24,11 @@ module _ {S : Type 0} (g : Table) (f : Filter S) (lower upper : BoundValue)
   Explains (Handed n t s) z =
       let key = take n z.key_area in
       (n ≤ length z.key_area) × HandsOut g f lower upper coming rows bytes count rest key t s × StandsAt g f lower z (after key)
-  Explains End z = (rest ≡ []) × AllFit g f lower upper coming rows bytes × StandsAt g f lower z at_end
+  Explains End z = (rest ≡ []) × FitToBound g f lower upper coming rows bytes × StandsAt g f lower z at_end
   Explains (Refused c) z =
-      (v : Bytes) × Reason g f lower upper coming rows bytes count rest v c × StandsAt g f lower z (before v)
+      (v : Bytes) × Reason g f lower upper coming rows bytes count rest v c × RowsBefore z v × StandsAt g f lower z (before v)
 
--- the answer a of a call with x, after a history that left y with rest still owed, fits: at the place where y stands it explains what it leaves, z
+-- the answer a of a call with x, after a history that left y with rest still owed, fits: from every place at which y stands it explains what it leaves, z
 abbrev pub Fits : {S : Type 0} → Table → Filter S → BoundValue → BoundValue → View S → List (Entry S) → View S → Answer S → View S → Type 0
 Fits g f lower upper y rest x a z = (p : Place) → StandsAt g f lower y p →
     Explains g f lower upper (Follows p) (length x.rows) (length x.key_area) x.search.count rest a z
@@ -41,10 +45,15 @@ pub record Owes {S : Type 0} (g : Table) (f : Filter S) (lower upper : BoundValu
   pub stood : y.search.standing ≡ true → (front : List (Entry S)) × (e : Entry S) × (es ≡ front ++ (e ∷ [])) ×
       ((x : View S) → too_short x ≡ false → Serves y x → key_of x ≡ Standing e.key)
 
--- every history of a search: what was handed out is the front of the rising list of all accepted keys within the bounds, and the next answer is its next entry
+-- every history of a search: what was handed out is the front of the rising list of all accepted keys within the bounds, it stands at a place, and the next answer fits
 abbrev pub HandedOutIsFront : Type 0 → Type 0
 HandedOutIsFront S = (g : Table) (f : Filter S) (lower upper : BoundValue) → Lawful g → LawfulFilter f →
     (y : View S) (es : List (Entry S)) → History g f lower upper y es → Owes g f lower upper y es
+
+-- areas that serve a search leave it where it stood
+abbrev pub PlaceIsKept : Type 0 → Type 0
+PlaceIsKept S = (g : Table) (f : Filter S) (lower : BoundValue) (y x : View S) → Serves y x →
+    (p : Place) → StandsAt g f lower y p → StandsAt g f lower x p
 
 -- that list is one only, and there is one
 abbrev pub Determined : Type 0 → Type 0

@@ -3,7 +3,7 @@
 #![tactic(auto)]
 
 ghost use Rattle.law.specs.Calls.{AnswerDetermined, OpenReasonDetermined};
-ghost use Rattle.law.specs.Theorems.{HandedOutIsFront, Determined, Listable, AlwaysBounded, ExhaustedListsAll};
+ghost use Rattle.law.specs.Theorems.{HandedOutIsFront, PlaceIsKept, Determined, Listable, AlwaysBounded, ExhaustedListsAll};
 ghost use Rattle.law.specs.Theorems.{UnionAndIntersectionCount, ComplementCount, ResumedListsTheRest, CanBeExhausted};
 
 /// A row of the stack: a node on the way, where to go on from it, the total so far and the state of the filter.
@@ -23,6 +23,11 @@ pub fn handed_out_is_front_of_list<S>()
 /// Theorem: graph, filter and bounds have one list only.
 pub fn list_is_determined<S>()
     ensures { Determined S }
+{}
+
+/// Theorem: areas that serve a search leave it at its place.
+pub fn place_is_kept<S>()
+    ensures { PlaceIsKept S }
 {}
 
 /// Theorem: the law of `next` leaves one answer to a call after a history.

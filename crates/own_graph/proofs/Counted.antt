@@ -12,7 +12,7 @@ use Rattle.law.specs.declared.Row.{Row}
 use Rattle.law.specs.Next.{next_of}
 use Rattle.law.specs.Open.{Opening, open_of}
 use Rattle.law.specs.History.{Serves, History, entries}
-use Rattle.law.specs.Paths.{Place, at_start, after, Follows, PathOf, PathFits, ComesTo, NextIs, AllFit}
+use Rattle.law.specs.Paths.{Place, at_start, after, Follows, PathOf, PathFits, ComesTo, NextIs, FitToBound}
 use Rattle.law.specs.Standing.{StandsAt}
 use Rattle.law.specs.Theorems.{Explains}
 use Rattle.law.specs.Calls.{NextLaw, GoesOn, CloseLaw, Opened, OpenReason}
@@ -172,7 +172,7 @@ module _ {S : Type 0} (g : Table) (f : Filter S) (lo hi : BoundValue) (rows byte
           few = i.few;
         }
       where
-        go : AllFit g f lo hi (Follows i.place) rows bytes → (v : Bytes) (u : ℕ) → PathOf g f lo v u →
+        go : FitToBound g f lo hi (Follows i.place) rows bytes → (v : Bytes) (u : ℕ) → PathOf g f lo v u →
             ((w : Bytes) (s : ℕ) → PathOf g f lo w s → Unit {0} → w ≺ v → To hi w) → Follows i.place v ⊎ (PathFits rows bytes v u × To hi v) → PathFits rows bytes v u
         go e v u en h (inr p) = p.0
         go e v u en h (inl p) = e v u en p (λ w s o c t. h w s o tt t)
@@ -180,12 +180,12 @@ module _ {S : Type 0} (g : Table) (f : Filter S) (lo hi : BoundValue) (rows byte
     -- a refusal: the path that stops the search
     pub cannot_count : (c : ℕ) → a ≡ Refused c → CannotCount g f lo hi rows bytes c
     cannot_count c q =
-        let (v, why, stands) = subst (λ (b : Answer S). Explains g f lo hi (Follows i.place) rows bytes (length i.handed) on.rest b z) q explained in
+        let (v, why, left, stands) = subst (λ (b : Answer S). Explains g f lo hi (Follows i.place) rows bytes (length i.handed) on.rest b z) q explained in
         let (u, m, s) = why in
         stopped i.opens i.handed on.rest v on.whole (λ e n. (handed_below v u m e n, i.totals e n)) i.few (u, from_start v u m, s)
       where
         from_start : (v : Bytes) (u : ℕ) → ComesTo g f lo hi (Follows i.place) rows bytes on.rest v u → ComesTo g f lo hi (Follows at_start) rows bytes on.rest v u
-        from_start v u m = record { path = m.path; to_come = tt; passed = λ w s en st t. before_it v u m w s en t; owed = m.owed }
+        from_start v u m = record { path = m.path; to_come = tt; passed = λ w s en st t. before_it v u m w s en t; none_owed_before = m.none_owed_before }
 
     -- by the item that a call answers
     pub handed_on : (item : Option (ℕ × ℕ × S)) → is_some item ≡ true → a ≡ item_of item → length z.rows ≡ rows → length z.key_area ≡ bytes →

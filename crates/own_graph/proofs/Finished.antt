@@ -10,7 +10,6 @@ use Rattle.law.specs.History.{Serves, History, entries}
 use Rattle.law.specs.Paths.{Follows}
 use Rattle.law.specs.Theorems.{Exhausted, Explains}
 use Rattle.law.specs.Calls.{NextLaw, GoesOn, CloseLaw, KeyLaw, stands_after}
-use Rattle.law.proofs.Histories.{handed_out_is_front}
 use Rattle.law.proofs.Unique.{determined}
 use Rattle.law.proofs.Kept.{listable}
 use Rattle.search.specs.Answers.{item_of}
@@ -24,15 +23,14 @@ module _ {S : Type 0} (g : Table) (f : Filter S) (lo hi : BoundValue) (x : View 
   goes_on = law.goes_on lo hi x es h (law.still_fits lo hi x es h) itself
 
   -- a key handed out: the history goes on, and the count, which was below the length of the list, rises
-  pub handed : (l : Lawful g) → LawfulFilter f → (item : Option (ℕ × ℕ × S)) → is_some item ≡ true → a ≡ item_of item →
+  pub handed : (l : Lawful g) → (item : Option (ℕ × ℕ × S)) → is_some item ≡ true → a ≡ item_of item →
       ((fs : List (Entry S)) × History g f lo hi z fs) × (x.search.count < z.search.count) × (x.search.count < length (listable g f lo hi l).0)
-  handed l m None p q = cc
-  handed l m (Some (n, t, s)) p q =
+  handed l None p q = cc
+  handed l (Some (n, t, s)) p q =
       let o = goes_on in
-      let past = handed_out_is_front g f lo hi l m x es h in
       let c = o.counted in
       let d : z.search.count ≡ length es + 1 = o.counted_after ∙ ap (λ (b : Answer S). length (es ++ entries b z.key_area)) q ∙ length-append es _ in
-      let fits = subst (λ (b : Answer S). Explains g f lo hi (Follows past.place) (length x.rows) (length x.key_area) x.search.count o.rest b z) q (o.fits past.place past.stands) in
+      let fits = subst (λ (b : Answer S). Explains g f lo hi (Follows o.place) (length x.rows) (length x.key_area) x.search.count o.rest b z) q (o.fits o.place o.stands) in
       let k : length (listable g f lo hi l).0 ≡ length es + length o.rest =
       ap length (determined g f lo hi l (listable g f lo hi l).0 (es ++ o.rest) (listable g f lo hi l).1 o.whole) ∙ length-append es o.rest in
       let j : length o.rest ≡ suc (length fits.1.later) = ap length fits.1.head in
@@ -41,6 +39,15 @@ module _ {S : Type 0} (g : Table) (f : Filter S) (lo hi : BoundValue) (x : View 
   pub finished : (item : Option (ℕ × ℕ × S)) → is_some item ≡ false → a ≡ item_of item → IsExhausted g f lo hi z.search
   finished (Some i) p q = cc
   finished None p q = (es, goes_on.exhausted q)
+
+-- a first call that answers the end: there are no keys
+pub no_key : {S : Type 0} (g : Table) (f : Filter S) → Lawful g → (lo hi : BoundValue) (x : View S) (a : Answer S) (z : View S) → NextLaw g f x a z → History g f lo hi x [] →
+    (item : Option (ℕ × ℕ × S)) → is_some item ≡ false → a ≡ item_of item → (fs : List (Entry S)) → Lists g f lo hi fs → fs ≡ []
+no_key g f l lo hi x a z law h (Some i) p q fs ls = cc
+no_key {S} g f l lo hi x a z law h None p q fs ls =
+    let o = goes_on g f lo hi x a z law [] h in
+    let none : o.rest ≡ [] = (subst (λ (b : Answer S). Explains g f lo hi (Follows o.place) (length x.rows) (length x.key_area) x.search.count o.rest b z) q (o.fits o.place o.stands)).0 in
+    determined g f lo hi l fs o.rest ls o.whole ∙ none
 
 -- a first search that stands at its first key, and one above that key
 module _ {S : Type 0} (g : Table) (f : Filter S) (l : Lawful g) (m : LawfulFilter f) (x : View S) (a : Answer S) (z : View S) (law : NextLaw g f x a z) (h : History g f unbounded unbounded x []) where

@@ -82,12 +82,12 @@ module _ {S : Type 0} (g : Table) (f : Filter S) (lo hi : BoundValue) (law : Law
         handed e later p q (inl m) =
             let l = longer e es later fs more (ap (λ (z : List (Entry S)). es ++ z) (sym p) ∙ same) (subst (λ (z : List (Entry S)). Rises (es ++ z)) p whole.rises) m in
             ((fitting e m).1, omega arith)
-        handed e later p q (inr m) = absurd (never w e (subst (λ (z : Bytes). z ≺ w) q t) (second.1.owed e m))
+        handed e later p q (inr m) = absurd (never w e (subst (λ (z : Bytes). z ≺ w) q t) (second.1.none_owed_before e m))
 
   same_stop : (es fs rest more : List (Entry S)) (v : Bytes) (c d : ℕ) → es ++ rest ≡ fs ++ more → ((e : Entry S) → e ∈ es → e.key ≺ v) → ((e : Entry S) → e ∈ fs → e.key ≺ v) →
       Why es rest v c → Why fs more v d → c ≡ d
   same_stop es fs rest more v c d same a b why other =
-      let (p, q) = one_parting v es rest fs more same a b (comes es rest v c why).1.owed (comes fs more v d other).1.owed in
+      let (p, q) = one_parting v es rest fs more same a b (comes es rest v c why).1.none_owed_before (comes fs more v d other).1.none_owed_before in
       (one_reason g f lo hi law (Follows at_start) rows bytes (length es) rest v v c d why
       (subst (λ (l : List (Entry S)). Why l rest v d) (sym p) (subst (λ (l : List (Entry S)). Why fs l v d) (sym q) other))).1
 

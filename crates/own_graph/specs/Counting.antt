@@ -10,7 +10,7 @@ use Rattle.law.specs.Entries.{Entry, Lists, ◌∈◌}
 use Rattle.law.specs.Values.{Search, View, Handed, End, Refused, most, most_keys}
 use Rattle.law.specs.Next.{next_of}
 use Rattle.law.specs.Open.{Opening}
-use Rattle.law.specs.Paths.{Follows, at_start, Reason, AllFit}
+use Rattle.law.specs.Paths.{Follows, at_start, Reason, FitToBound}
 use Rattle.law.specs.Calls.{OpenReason}
 use Rattle.search.specs.declared.refusal.Refusal.{Refusal}
 use Rattle.search.specs.Numbers.{number_of}
@@ -44,7 +44,7 @@ pub record CountsList {S : Type 0} (g : Table) (f : Filter S) (lower upper : Bou
   pub list : List (Entry S)
   pub whole : Lists g f lower upper list
   pub number : n ≡ length list
-  pub fit : AllFit g f lower upper (Follows at_start) rows bytes
+  pub fit : FitToBound g f lower upper (Follows at_start) rows bytes
   pub totals_fit : (e : Entry S) → e ∈ list → e.total ≤ most
   pub few : length list ≤ most_keys
 

@@ -1,5 +1,5 @@
 -- What callers of several searches owe. Assumes nothing.
-use Rattle.std.specs.Prelude.{◌≡◌, ℕ, List, length, Some, None, Option}
+use Rattle.std.specs.Prelude.{◌≡◌, ℕ, List, [], length, Some, None, Option}
 use Rattle.bound.specs.Value.{BoundValue, unbounded}
 use Rattle.graph.specs.Table.{Table}
 use Rattle.filter.specs.Filter.{Filter}
@@ -11,7 +11,7 @@ use Rattle.law.specs.Theorems.{Exhausted}
 abbrev pub IsExhausted : {S : Type 0} → Table → Filter S → BoundValue → BoundValue → Search → Type 0
 IsExhausted {S} g f lower upper s = (es : List (Entry S)) × Exhausted g f lower upper s es
 
--- the number, if there is a first key, is that of all accepted keys
+-- the number is that of all accepted keys, and none is answered where there are none
 abbrev pub CountsAll : {S : Type 0} → Table → Filter S → Option ℕ → Type 0
-CountsAll {S} g f None = Unit {0}
+CountsAll {S} g f None = (fs : List (Entry S)) → Lists g f unbounded unbounded fs → fs ≡ []
 CountsAll {S} g f (Some n) = (fs : List (Entry S)) → Lists g f unbounded unbounded fs → n ≡ length fs

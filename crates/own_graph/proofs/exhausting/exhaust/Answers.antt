@@ -15,7 +15,7 @@ keys-smaller g c =
     let item = c.in_ok-next.field-0 in
     let h = c.keys.invariant in
     let o = handed t f b.lower b.upper x (answer_of (Ok item)) z c.in_ok-next.ensures.law h.0 h.1
-    (g.met.G.Graph.lawful c.args.graph.now) (g.met.A.Automaton.lawful c.args.filter.now) item (sym c.is_some.ensures ∙ c.if-is_some.true) refl in
+    (g.met.G.Graph.lawful c.args.graph.now) item (sym c.is_some.ensures ∙ c.if-is_some.true) refl in
     let p = o.1 in
     let q = o.2 in
     omega arith
@@ -30,4 +30,4 @@ keys-preserved g c =
     let item = c.in_ok-next.field-0 in
     let h = c.keys.invariant in
     (handed t f b.lower b.upper x (answer_of (Ok item)) z c.in_ok-next.ensures.law h.0 h.1
-    (g.met.G.Graph.lawful c.args.graph.now) (g.met.A.Automaton.lawful c.args.filter.now) item (sym c.is_some.ensures ∙ c.if-is_some.true) refl).0
+    (g.met.G.Graph.lawful c.args.graph.now) item (sym c.is_some.ensures ∙ c.if-is_some.true) refl).0
