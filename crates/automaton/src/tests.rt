@@ -1,4 +1,4 @@
-//! The examples of the documentation.
+//! Examples, two of them like those of the original's documentation.
 use super::*;
 
 #[test]
