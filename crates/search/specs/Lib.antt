@@ -4,3 +4,5 @@ pub mod Answers
 pub mod Looks
 pub mod Openings
 pub mod Queries
+pub mod Chain
+pub mod ChainLaws

@@ -8,6 +8,8 @@ mod opening;
 mod query;
 mod refusal;
 mod search;
+#[cfg(test)]
+mod tests;
 
 pub use bound::Bound;
 pub use counts::{complement_agrees, union_agrees};
