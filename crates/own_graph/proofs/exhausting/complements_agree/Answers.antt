@@ -18,9 +18,9 @@ returns g c n =
     let f = g.A.Automaton.table c.args.filter.now in
     let d : Bounds = record { lower = unbounded; upper = included c.args.upper.now } in
     let above = λ (b : Bounds). record b { upper = included c.args.upper.now } in
-    let m = moved t f f (search_of c.in_ok-matching.matching) _ d refl (c.le.ensures ∙ ap above c.new.ensures) c.in_ok-matching.ensures in
+    let m = moved t f f (search_of c.in_ok-matching.matching) _ d refl (c.le.ensures.answer ∙ ap above c.new.ensures) c.in_ok-matching.ensures in
     let o = moved t _ (complement_table f) (search_of c.in_ok-others.others) _ d
-    (let e = c.complement-complement.ensures.holds in ap (λ x. complement_table (g.A.Automaton.table x.now)) e) (c.le-2.ensures ∙ ap above c.new-2.ensures) c.in_ok-others.ensures in
-    let u = moved t _ always_match_table (search_of c.in_ok-unfiltered.unfiltered) _ d refl (c.le-3.ensures ∙ ap above c.new-3.ensures) c.in_ok-unfiltered.ensures in
+    (let e = c.complement-complement.ensures.holds in ap (λ x. complement_table (g.A.Automaton.table x.now)) e) (c.le-2.ensures.answer ∙ ap above c.new-2.ensures) c.in_ok-others.ensures in
+    let u = moved t _ always_match_table (search_of c.in_ok-unfiltered.unfiltered) _ d refl (c.le-3.ensures.answer ∙ ap above c.new-3.ensures) c.in_ok-unfiltered.ensures in
     (c.complement_agrees.ensures.law.agrees t f (g.met.G.Graph.lawful c.args.graph.now) (g.met.A.Automaton.lawful c.args.filter.now) n
     d.lower d.upper m.0 o.0 m.1 o.1 u.0 u.1).0
