@@ -10,8 +10,9 @@ use Rattle.filter.specs.Filter.{Filter}
 use Rattle.graph.specs.Table.{Lawful, Table}
 use Rattle.law.specs.Entries.{Entry, ◌∈◌}
 use Rattle.law.specs.Values.{Answer, End, Handed, Refused, View, most, most_keys}
-use Rattle.law.specs.Paths.{PathOf, PathFits, ComesTo, NextIs, Stops, stack_full, key_area_full, path_too_large, total_too_large, count_full, Reason, HandsOut, FitToBound, Follows}
-use Rattle.law.specs.Theorems.{Explains}
+use Rattle.law.specs.Paths.{PathOf, PathFits, ComesTo, NextIs, Stops, stack_full, key_area_full, path_too_large, total_too_large, count_full, Reason, HandsOut, FitToBound, Place, Follows, after, before, at_end}
+use Rattle.law.specs.Standing.{StandsAt}
+use Rattle.law.specs.Theorems.{Explains, rows_before}
 use Rattle.law.specs.Calls.{AnswerDetermined, OpenReasonDetermined, OpenReason, too_few_rows, too_few_bytes, path_too_large as path_large, empty_key_too_large}
 use Rattle.law.proofs.Entering.{one_path_sum, all_fits}
 use Rattle.law.proofs.Unique.{determined}
@@ -176,6 +177,45 @@ module _ {S : Type 0} (g : Table) (f : Filter S) (lower upper : BoundValue) (law
     same_answer (Refused c) End y z (v, a, k, p) (e, b, q) = absurd (ends_not coming others forth v c (halts coming v c a) e b back)
     same_answer (Refused c) (Refused d) y z (v, a, k, p) (w, b, r, q) = ap Refused (same_refusal v w c d (halts coming v c a) (halts others w d b))
 
+    -- both leave the search at one place
+    one_place : (a b : Answer S) (y z : View S) → a ≡ b → Explains g f lower upper coming rows bytes count rest a y → Explains g f lower upper others rows bytes count rest b z →
+        (p : Place) × StandsAt g f lower y p × StandsAt g f lower z p
+    one_place (Handed n t s) (Handed m u r) y z e (i, a, o) (j, b, q) =
+        let d : Entry S = record { key = []; total = t; state = s } in
+        let k : take n y.key_area ≡ take m z.key_area = ap (λ (x : List (Entry S)). (first_of d x).key) (sym a.head ∙ b.head) in
+        (after (take n y.key_area), o, subst (λ (x : Bytes). StandsAt g f lower z (after x)) (sym k) q)
+    one_place End End y z e (i, a, o) (j, b, q) = (at_end, o, q)
+    one_place (Refused c) (Refused d) y z e (v, a, i, o) (w, b, j, q) =
+        (before v, o, subst (λ (x : Bytes). StandsAt g f lower z (before x)) (sym (same_path v w c d (halts coming v c a) (halts others w d b))) q)
+    one_place (Handed n t s) End y z e a b = cc
+    one_place (Handed n t s) (Refused d) y z e a b = cc
+    one_place End (Handed m u r) y z e a b = cc
+    one_place End (Refused d) y z e a b = cc
+    one_place (Refused c) (Handed m u r) y z e a b = cc
+    one_place (Refused c) End y z e a b = cc
+
+    -- and a refusal with one number of rows in use
+    pub same_depth : (a b : Answer S) (y z : View S) → Explains g f lower upper coming rows bytes count rest a y → Explains g f lower upper others rows bytes count rest b z →
+        (c : ℕ) → a ≡ Refused c → y.search.depth ≡ z.search.depth
+    same_depth (Handed n t s) b y z m n₂ c e = cc
+    same_depth End b y z m n c e = cc
+    same_depth (Refused c) (Handed m u r) y z p q d e = absurd (never_refused (same_answer (Refused c) (Handed m u r) y z p q))
+      where
+        never_refused : ◌≡◌ {A = Answer S} (Refused c) (Handed m u r) → ⊥
+        never_refused e = cc
+    same_depth (Refused c) End y z p q d e = absurd (never_ended (same_answer (Refused c) End y z p q))
+      where
+        never_ended : ◌≡◌ {A = Answer S} (Refused c) End → ⊥
+        never_ended e = cc
+    same_depth (Refused c) (Refused d) y z (v, a, i, o) (w, b, j, q) n e =
+        i ∙ ap rows_before (same_path v w c d (halts coming v c a) (halts others w d b)) ∙ sym j
+
+    pub same_places : (a b : Answer S) (y z : View S) → Explains g f lower upper coming rows bytes count rest a y → Explains g f lower upper others rows bytes count rest b z →
+        (p : Place) → StandsAt g f lower y p → StandsAt g f lower z p
+    same_places a b y z m n p st v u en =
+        let (q, one, other) = one_place a b y z (same_answer a b y z m n) m n in
+        (λ t. (st v u en).0 ((one v u en).1 ((other v u en).0 t)), λ h. (other v u en).1 ((one v u en).0 ((st v u en).1 h)))
+
 -- a call is refused at one path, and with one number
 pub one_reason : {S : Type 0} (g : Table) (f : Filter S) (lower upper : BoundValue) → Lawful g → (coming : Bytes → Type 0) (rows bytes count : ℕ) (rest : List (Entry S)) →
     (v w : Bytes) (c d : ℕ) → Reason g f lower upper coming rows bytes count rest v c → Reason g f lower upper coming rows bytes count rest w d → (v ≡ w) × (c ≡ d)
@@ -205,5 +245,8 @@ answer_determined {S} g f lower upper law lawful y es h x a b z u p q =
     let o = handed_out_is_front g f lower upper law lawful y es h in
     let e : p.rest ≡ q.rest = append_cancel_left es p.rest q.rest (determined g f lower upper law (es ++ p.rest) (es ++ q.rest) p.whole q.whole) in
     let n = p.fits o.place o.stands in
-    let m = subst (λ (r : List (Entry S)). Explains g f lower upper (Follows o.place) (length x.rows) (length x.key_area) x.search.count r b u) (sym e) (q.fits o.place o.stands) in
-    same_answer g f lower upper law (length x.rows) (length x.key_area) x.search.count p.rest (Follows o.place) (Follows o.place) (λ v s en. (λ k. k, λ k. k)) a b z u n m
+    let m = subst (λ (r : List (Entry S)). Explains g f lower upper (Follows o.place) (length x.rows) (length x.key_area) x.search.count r b u) (sym e) (q.fits o.place o.stands) in (
+      same_answer g f lower upper law (length x.rows) (length x.key_area) x.search.count p.rest (Follows o.place) (Follows o.place) (λ v s en. (λ k. k, λ k. k)) a b z u n m,
+      same_places g f lower upper law (length x.rows) (length x.key_area) x.search.count p.rest (Follows o.place) (Follows o.place) (λ v s en. (λ k. k, λ k. k)) a b z u n m,
+      same_depth g f lower upper law (length x.rows) (length x.key_area) x.search.count p.rest (Follows o.place) (Follows o.place) (λ v s en. (λ k. k, λ k. k)) a b z u n m,
+    )

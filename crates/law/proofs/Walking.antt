@@ -25,7 +25,7 @@ use mathlib.Core.List.{append_cancel_left}
 use borrow.Author.Tests.{eqb-false}
 use Rattle.law.specs.Paths.{LetThrough, PathOf, PathFits, ComesTo, NextIs, stack_full, key_area_full, path_too_large, total_too_large, count_full, Reason, before, after}
 use Rattle.law.specs.Standing.{Ahead, Coming, Awaited, ToCome, StandsAt}
-use Rattle.law.specs.Theorems.{Explains}
+use Rattle.law.specs.Theorems.{Explains, rows_before}
 use Rattle.law.proofs.Frame.{Frame, frame_same, frame_hand, owed, none_owed}
 use Rattle.law.proofs.Invariant.{Stands, Reached, row, off_top, off_top_back, new_back, behind_new, stands_less, remove, stands_more, exceed, pass, hand}
 
@@ -35,6 +35,11 @@ neither false b e = (refl, e)
 
 length_one_more : {A : Type 0} (xs : List A) (x : A) → length (xs ++ (x ∷ [])) ≡ suc (length xs)
 length_one_more xs x = let e = length-append xs (x ∷ []) in omega arith
+
+-- a path that is not empty has a row before it for each of its bytes
+rows_of : (v : Bytes) → (v ≡ [] → ⊥) → rows_before v ≡ length v
+rows_of [] n = absurd (n refl)
+rows_of (b ∷ v) n = refl
 
 module _ {S : Type 0} (g : Table) (f : Filter S) (lo hi : BoundValue) where
   pub record Inv (y : View S) (es : List (Entry S)) : Type 0 where
@@ -429,7 +434,7 @@ module _ {S : Type 0} (g : Table) (f : Filter S) (lo hi : BoundValue) where
           room : (v : Bytes) (u : ℕ) → Coming g f x.search.depth x.rows x.key_area v ⊎ (PathFits R B v u × To hi v) → Room v u
           room v u (inl a) = absurd (subst (λ (n : ℕ). Coming g f n x.rows x.key_area v) e a)
           room v u (inr q) = q.0
-      moved x m c (refused n d e h eq) = subst Moved (sym eq) (record { inv = nothing_more x es (between_inv Start R B x es c); explains = (w x d e c, why x d e c n h, inr (long x d e c ∙ sym e), stands_there x d e c n h) })
+      moved x m c (refused n d e h eq) = subst Moved (sym eq) (record { inv = nothing_more x es (between_inv Start R B x es c); explains = (w x d e c, why x d e c n h, e ∙ sym (long x d e c) ∙ sym (rows_of (w x d e c) (not_empty x d e c)), stands_there x d e c n h) })
       moved x m c (removed d e sp eq) = subst Moved (sym eq) (taken_off x d e c sp)
       moved x m c (beyond d e k out eq) = subst Moved (sym eq) (goes_beyond x d e c k out)
       moved x m c (passed d e k fit undue eq) = subst Moved (sym eq) (goes_in x d e c k fit undue)
@@ -618,7 +623,7 @@ module _ {S : Type 0} (g : Table) (f : Filter S) (lo hi : BoundValue) where
         inv = nothing_more y es still;
         explains =
             let (later, q) = head first_entry (next_entry Later es first_entry (first_frame p v)) in
-            ([], (g.first_total, comes_first, count_full first_fits t (f.start, later, q) (i.waits t o).4 (sym i.counted ∙ n)), inl refl, stands_first);
+            ([], (g.first_total, comes_first, count_full first_fits t (f.start, later, q) (i.waits t o).4 (sym i.counted ∙ n)), one_deep, stands_first);
       }
 
       first_well : (a b c : Bool) → is_admitted x.search.upper [] ≡ a → verdict_at f f.start ≡ b → eqb x.search.count most_keys ≡ c →

@@ -115,11 +115,14 @@ pub record ComplementLaw (A : Type 0) (matching others unfiltered : Search) (agr
       (us : List (Entry (Unit {0}))) → Exhausted g always_match_table lower upper unfiltered us →
       (agree ≡ true) × (matching.count + others.count ≡ unfiltered.count)
 
--- one answer only: two answers to one call after one history that both keep the law are the same
+-- one answer only: two answers to one call after one history that both keep the law are the same; they leave the search at the same
+-- places, and a refusal with as many rows in use
 abbrev pub AnswerDetermined : Type 0 → Type 0
 AnswerDetermined S = (g : Table) (f : Filter S) (lower upper : BoundValue) → Lawful g → LawfulFilter f →
     (y : View S) (es : List (Entry S)) → History g f lower upper y es → (x : View S) (a b : Answer S) (z u : View S) →
-    GoesOn g f lower upper y es x a z → GoesOn g f lower upper y es x b u → a ≡ b
+    GoesOn g f lower upper y es x a z → GoesOn g f lower upper y es x b u →
+    (a ≡ b) × ((p : Place) → StandsAt g f lower z p → StandsAt g f lower u p) ×
+    ((c : ℕ) → a ≡ Refused c → z.search.depth ≡ u.search.depth)
 
 -- and an opening is refused by one number only
 abbrev pub OpenReasonDetermined : Type 0

@@ -1,5 +1,5 @@
 -- The theorems about whole searches, for all tables and all histories. Each is named by the contract of a function. Assumes nothing.
-use Rattle.std.specs.Prelude.{◌≡◌, ◌⊎◌, ℕ, suc, ◌+◌, ◌≤◌, true, false, List, [], ◌∷◌, ◌++◌, length, take, None}
+use Rattle.std.specs.Prelude.{◌≡◌, ℕ, suc, ◌+◌, ◌≤◌, true, false, List, [], ◌∷◌, ◌++◌, length, take, None}
 use Rattle.byte_strings.specs.Order.{Bytes}
 use Rattle.bound.specs.Value.{BoundValue, excluded}
 use Rattle.graph.specs.Table.{Table, Lawful}
@@ -13,9 +13,10 @@ use Rattle.law.specs.History.{Serves, History}
 use Rattle.law.specs.Paths.{Place, Follows, after, before, at_end, HandsOut, Reason, FitToBound}
 use Rattle.law.specs.Standing.{StandsAt}
 
--- the rows in use are those of the bytes of v before its last; of the empty path there are none
-abbrev pub RowsBefore : {S : Type 0} → View S → Bytes → Type 0
-RowsBefore z v = (v ≡ []) ⊎ (length v ≡ z.search.depth)
+-- how many rows are in use before the path v: the root's, and one for each byte of v but its last
+abbrev pub rows_before : Bytes → ℕ
+rows_before [] = 1
+rows_before (b ∷ v) = suc (length v)
 
 -- what an answer of a call says, with the paths of coming to come and rest owed, and where the search z that it leaves stands
 module _ {S : Type 0} (g : Table) (f : Filter S) (lower upper : BoundValue)
@@ -26,7 +27,8 @@ module _ {S : Type 0} (g : Table) (f : Filter S) (lower upper : BoundValue)
       (n ≤ length z.key_area) × HandsOut g f lower upper coming rows bytes count rest key t s × StandsAt g f lower z (after key)
   Explains End z = (rest ≡ []) × FitToBound g f lower upper coming rows bytes × StandsAt g f lower z at_end
   Explains (Refused c) z =
-      (v : Bytes) × Reason g f lower upper coming rows bytes count rest v c × RowsBefore z v × StandsAt g f lower z (before v)
+      (v : Bytes) × Reason g f lower upper coming rows bytes count rest v c ×
+      (z.search.depth ≡ rows_before v) × StandsAt g f lower z (before v)
 
 -- the answer a of a call with x, after a history that left y with rest still owed, fits: from every place at which y stands it explains what it leaves, z
 abbrev pub Fits : {S : Type 0} → Table → Filter S → BoundValue → BoundValue → View S → List (Entry S) → View S → Answer S → View S → Type 0

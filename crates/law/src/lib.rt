@@ -30,7 +30,7 @@ pub fn place_is_kept<S>()
     ensures { PlaceIsKept S }
 {}
 
-/// Theorem: the law of `next` leaves one answer to a call after a history.
+/// Theorem: the law of `next` leaves one answer to a call after a history, and one place to go on from.
 pub fn answer_is_determined<S>()
     ensures { AnswerDetermined S }
 {}

@@ -11,7 +11,7 @@ use Rattle.law.specs.Theorems.{Exhausted}
 abbrev pub IsExhausted : {S : Type 0} → Table → Filter S → BoundValue → BoundValue → Search → Type 0
 IsExhausted {S} g f lower upper s = (es : List (Entry S)) × Exhausted g f lower upper s es
 
--- the number is that of all accepted keys, and none is answered where there are none
+-- the number is that of all accepted keys; no number only where there are none
 abbrev pub CountsAll : {S : Type 0} → Table → Filter S → Option ℕ → Type 0
 CountsAll {S} g f None = (fs : List (Entry S)) → Lists g f unbounded unbounded fs → fs ≡ []
 CountsAll {S} g f (Some n) = (fs : List (Entry S)) → Lists g f unbounded unbounded fs → n ≡ length fs
