@@ -15,13 +15,26 @@ pub fn compare(a: &[u8], b: &[u8]) -> Ordering
     a.cmp(&b)
 }
 
+/// How `byte` alone stands to `b`.
+// No `compare` of a slice of one: a search with an upper bound asks at its every look, and the library's order is a call.
+#[inline(always)]
+fn compare_byte(byte: u8, b: &[u8]) -> Ordering
+    ensures { result ≡ order (byte ∷ []) b.now }
+{
+    match b {
+        [] => Ordering::Greater,
+        [first] => byte.cmp(first),
+        [first, ..] => byte.cmp(first).then(Ordering::Less),
+    }
+}
+
 /// How `front` followed by `byte` stands to `b`, without writing the byte.
 #[tactic(auto, using(crate::proofs::WithByte::order_in_parts, crate::proofs::WithByte::order_before_byte))]
 pub fn compare_with_byte(front: &[u8], byte: u8, b: &[u8]) -> Ordering
     ensures { result ≡ order (front.now ++ (byte ∷ [])) b.now }
 {
     match b.split_at_checked(front.len()) {
-        Some((head, rest)) => compare(front, head).then(compare([byte].as_slice(), rest)),
+        Some((head, rest)) => compare(front, head).then(compare_byte(byte, rest)),
         None => compare(front, b),
     }
 }

@@ -83,6 +83,7 @@ impl<'a> Entry<'a> {
     }
 
     /// The body, which lies within the file.
+    #[inline(always)]
     pub(crate) fn body(&self) -> &'a [[u8; TRANSITION]]
         requires { let file = file_of self.now.bytes.now in file.place self.now.node + 13 * file.len self.now.node ≤ file.size }
         ensures { BodyOf self.now.bytes.now self.now.node result.now }

@@ -7,15 +7,14 @@ mod parts;
 
 use account::Account;
 use files::{FORK, LEAF, PAIR};
-use std::alloc::AllocError;
-use std::io;
+use std::{fmt, io};
 
 /// The whole account, or as much of it as memory holds.
-fn tell(account: &mut Account) -> Result<(), AllocError> {
+fn tell(account: &mut Account) -> fmt::Result {
     for file in [LEAF, PAIR, FORK] {
         account.whole(file)?;
     }
-    account.questions(FORK)?;
+    account.is_short |= account.questions(FORK).is_err();
     for file in [LEAF, PAIR, FORK] {
         account.cuts(file)?;
     }
@@ -29,7 +28,8 @@ fn tell(account: &mut Account) -> Result<(), AllocError> {
 
 fn main(rt: HostRuntime) -> io::Result<()> {
     let mut account = Account::new(rt.alloc());
-    if tell(&mut account).is_err() {
+    account.is_short |= tell(&mut account).is_err();
+    if account.is_short {
         rt.println("memory was wanting")?;
     }
     rt.print(account.text.as_str())

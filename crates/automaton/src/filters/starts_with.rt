@@ -15,6 +15,7 @@ pub struct StartsWith<F> {
 
 impl<F: Automaton> StartsWith<F> {
     /// The state where the inner filter has come to this one.
+    #[inline(always)]
     fn over(&self, inner: F::State) -> StartsWithState<F::State>
         ensures { result ≡ starts_with_state (F.table self.now.filter) inner }
     {

@@ -64,10 +64,9 @@ impl Automaton for Str<'_> {
 
     fn accept(&self, state: Option<usize>, byte: u8) -> Option<usize> {
         let position = state?;
-        if self.bytes.get(position) == Some(&byte) {
-            Some(position + 1)
-        } else {
-            None
+        match self.bytes.get(position) {
+            Some(next) if *next == byte => Some(position + 1),
+            _ => None,
         }
     }
 

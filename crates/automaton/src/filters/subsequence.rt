@@ -57,10 +57,9 @@ impl Automaton for Subsequence<'_> {
     }
 
     fn accept(&self, state: usize, byte: u8) -> usize {
-        if self.bytes.get(state) == Some(&byte) {
-            state + 1
-        } else {
-            state
+        match self.bytes.get(state) {
+            Some(next) if *next == byte => state + 1,
+            _ => state,
         }
     }
 
